@@ -1,0 +1,5 @@
+-- What follows from the rules and is cited by both proofs of code and theorems.
+pub mod Tests
+pub mod Rows
+pub mod First
+pub mod Order

@@ -1,0 +1,1 @@
+// What follows from the rules, for proofs of code and for theorems: specs only.
