@@ -8,14 +8,18 @@
 #![deny(missing_docs)]
 
 pub mod check;
+pub mod cycles;
 pub mod reader;
 pub mod refusal;
 pub mod slip;
 pub mod table;
+pub mod times;
 pub mod writer;
 
+pub use check::{check, check_into, check_with};
 pub use reader::{read, read_into, read_with};
 pub use refusal::Refusal;
 pub use slip::Slip;
 pub use table::{Plan, State, Table};
+pub use times::{modified_times, modified_times_with};
 pub use writer::{write, write_into};

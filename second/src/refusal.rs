@@ -17,6 +17,17 @@ impl Refusal {
     }
 }
 
+/// Refuses with this number at the first wrong verdict, counted from 0.
+pub(crate) fn refuse_first_wrong(
+    number: u32,
+    mut wrong: impl Iterator<Item = bool>,
+) -> Result<(), Refusal> {
+    match wrong.position(|wrong| wrong) {
+        Some(place) => Err(Refusal::new(number, place)),
+        None => Ok(()),
+    }
+}
+
 /// Refuses with 11 where one of the lent lists is shorter than its need.
 pub(crate) fn refuse_short_room(rooms_and_needs: &[(usize, usize)]) -> Result<(), Refusal> {
     if rooms_and_needs.iter().any(|(room, need)| room < need) {
