@@ -1,6 +1,9 @@
 //! Helpers shared by the tests.
 #![allow(dead_code)]
 
+pub mod clauses;
+pub mod random;
+
 use second::{Refusal, Table};
 
 /// Makes a table of jobs (release, cost, deadline), arcs (before, after) and sections
