@@ -1,8 +1,8 @@
 //! An independent second program of the job dispatcher for one preemptive processor.
 //!
-//! Written from the rules alone, to be compared with the proved implementation. Functions whose
-//! name ends in `_with` and that take a [`Slip`] are the same ones with a deliberate mistake
-//! switched on; with [`Slip::None`] they are the right program.
+//! Written from the rules alone, to be compared with the proved implementation. Functions that
+//! take a [`Slip`] are the same program with one deliberate mistake switched on; with
+//! [`Slip::None`] they are the right one.
 
 #![forbid(unsafe_code)]
 #![deny(missing_docs)]

@@ -6,7 +6,6 @@ use crate::refusal::{refuse_short_room, Refusal};
 use crate::slip::Slip;
 use crate::table::{Table, MOST_ARCS, MOST_JOBS, MOST_SECTIONS};
 use std::ops::RangeInclusive;
-use std::slice::Iter;
 
 /// The keys of a job.
 pub(crate) const JOB_KEYS: [&str; 3] = ["release", "cost", "deadline"];
@@ -38,9 +37,8 @@ pub fn read_into(
 
 /// Reads a table from its text, with a slip.
 pub fn read_with(text: &[u8], slip: Slip) -> Result<Table, Refusal> {
-    let lines: Vec<&[u8]> = text.split_inclusive(|&byte| byte == b'\n').collect();
     let mut reader = Reader {
-        rest: lines.iter(),
+        rest: Box::new(text.split_inclusive(|&byte| byte == b'\n')),
         number: 0,
         slip,
     };
@@ -60,7 +58,7 @@ pub fn read_with(text: &[u8], slip: Slip) -> Result<Table, Refusal> {
 
 /// The lines not read yet, and the number of the last one read.
 struct Reader<'a> {
-    rest: Iter<'a, &'a [u8]>,
+    rest: Box<dyn Iterator<Item = &'a [u8]> + 'a>,
     number: usize,
     slip: Slip,
 }
@@ -69,7 +67,7 @@ impl Reader<'_> {
     /// Reads one line of this key and gives its number.
     fn value(&mut self, key: &str) -> Result<u32, Refusal> {
         self.number += 1;
-        let line = self.rest.next().copied().unwrap_or_default();
+        let line = self.rest.next().unwrap_or_default();
         let value = value_of_line(line, key, self.slip);
         value.ok_or(Refusal::new(1, self.number))
     }

@@ -222,6 +222,12 @@ fn reading_30_lateness_of_an_unfinished_job_is_none() {
 }
 
 #[test]
+fn reading_30_lateness_of_an_odd_state_without_a_finish() {
+    let plan = check(&table(&[[0, 1, 1_000_000]], &[], &[])).unwrap();
+    assert_eq!(lateness(&plan, &state(5, &[1]), 0), Ok(Some(-1_000_000)));
+}
+
+#[test]
 fn reading_31_start_state() {
     let plan = check(&p1()).unwrap();
     assert_eq!(start(&plan), Ok(state(0, &[0, 0, 0])));

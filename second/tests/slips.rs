@@ -55,6 +55,7 @@ fn ceiling_at_most() {
     assert_eq!(broken(&p1(), slip), Some('b'));
     assert_eq!(ran(&two_on_one_resource(), Slip::None), [0, 0, 1]);
     assert_eq!(ran(&two_on_one_resource(), slip), [0, 1, 0]);
+    assert_eq!(broken(&two_on_one_resource(), slip), Some('b'));
 }
 
 #[test]
@@ -85,6 +86,12 @@ fn one_tick_sections_dropped() {
     assert_eq!(density_with(&plan, slip).unwrap().sums, [10, 14, 22]);
     assert_eq!(ran(&two_on_one_resource(), Slip::None), [0, 0, 1]);
     assert_eq!(ran(&two_on_one_resource(), slip), [0, 1, 0]);
+    assert_eq!(broken(&two_on_one_resource(), slip), Some('b'));
+    let sections = [[0, 0, 0, 1], [1, 0, 0, 1]];
+    let dense = write(&table(&[[0, 1, 1], [0, 1, 2]], &[], &sections)).unwrap();
+    let right = density_answer_with(&dense, Slip::None);
+    assert_eq!(right, b"density=no\nplace=1\n");
+    assert_eq!(density_answer_with(&dense, slip), b"density=no\nplace=2\n");
 }
 
 #[test]
