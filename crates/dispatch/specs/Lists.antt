@@ -1,0 +1,45 @@
+-- Plans and states as the lists that an entry is handed.
+use mathlib.Core.Bool.{Bool, not, _&&_, _||_}
+use mathlib.Core.List.{List, []}
+use mathlib.Core.Option.{Option, none, some}
+use mathlib.Core.Path.{_≡_}
+use Prim.Native.Nat.{ℕ, _*_, _<_}
+use lib.ListN.{length}
+use Rattle.rules.specs.Table.{Table, Plan, State}
+use Rattle.rules.specs.Tick.{pending, started}
+use Rattle.dispatch.specs.declared.choice.Found.{Found}
+use Rattle.dispatch.specs.declared.choice.Found.the-variants.{At, Nothing}
+
+abbrev pub plan : List ℕ → List ℕ → List ℕ → List ℕ → Plan
+plan jobs arcs sections times =
+    record { table = record { jobs = jobs; arcs = arcs; sections = sections }; times = times }
+
+abbrev pub state : ℕ → List ℕ → List ℕ → List ℕ → State
+state tick executed marks finish = record { tick = tick; executed = executed; marks = marks; finish = finish }
+
+-- what the order and the times of jobs need of a plan
+abbrev pub timed : List ℕ → List ℕ → Plan
+timed jobs times = plan jobs [] [] times
+
+-- what a choice needs of a state
+abbrev pub at : ℕ → List ℕ → State
+at tick executed = state tick executed [] []
+
+abbrev pub asOption : Found → Option ℕ
+asOption (At j) = some j
+asOption Nothing = none
+
+-- a job that is named is below n
+abbrev pub Within : Found → ℕ → Type 0
+Within (At j) n = j < n
+Within Nothing n = Unit {0}
+
+-- pending, and started where only started jobs are asked for
+unfoldable pub candidate : Bool → Plan → State → ℕ → Bool
+unfolding pending started
+candidate startedOnly p st j = pending p st j && (not startedOnly || started st j)
+
+-- lists of a plan and a state that belong together
+pub record Sized (jobs times executed : List ℕ) : Type 0 where
+  pub by-job : length jobs ≡ 3 * length executed
+  pub pairs : length times ≡ 2 * length executed

@@ -1,0 +1,122 @@
+// Who runs in a tick: one pass over the jobs for the first in the order, one over the sections for what is held, and one for
+// the ceilings.
+use rules::Instant;
+use rules::Span;
+ghost use mathlib.Core.Path.{_≡_};
+ghost use mathlib.Core.List.{[]};
+ghost use mathlib.Core.Bool.{not, _&&_, _||_};
+ghost use Prim.Native.Nat.{ℕ, _+_, _*_, _/_, _-_, _<_, _≤_};
+ghost use lib.Dec.{ltb, leb, eqb};
+ghost use lib.ListN.{length, getD};
+ghost use Rattle.rules.specs.Rows.{first, better};
+ghost use Rattle.rules.specs.Order.{comesBefore};
+ghost use Rattle.dispatch.specs.Lists.{plan, timed, at, asOption, Within, candidate, Sized};
+
+// A job that was looked for.
+pub enum Found {
+    At(usize),
+    Nothing,
+}
+
+// The modified release of a job.
+pub fn release_of(times: &[u32], job: usize) -> Instant
+    requires { ⌜ 2 * job + 1 < length (now times) ⌝ }
+    ensures { λ r. ⌜ r .0 ≡ getD (now (times .entry)) (2 * job) 0 ⌝ }
+{
+    Instant(times[2 * job])
+}
+
+// The modified deadline of a job.
+pub fn deadline_of(times: &[u32], job: usize) -> Instant
+    requires { ⌜ 2 * job + 1 < length (now times) ⌝ }
+    ensures { λ r. ⌜ r .0 ≡ getD (now (times .entry)) (2 * job + 1) 0 ⌝ }
+{
+    Instant(times[2 * job + 1])
+}
+
+// The relative deadline of a job.
+pub fn span_of(times: &[u32], job: usize) -> Span
+    requires { ⌜ 2 * job + 1 < length (now times) ⌝ }
+    ensures { λ r. ⌜ r .0 ≡ getD (now (times .entry)) (2 * job + 1) 0 - getD (now (times .entry)) (2 * job) 0 ⌝ }
+{
+    deadline_of(times, job).since(release_of(times, job))
+}
+
+// Whether a comes before b, where `tie` says so of equal ones.
+fn first_key(a: Instant, b: Instant, tie: bool) -> bool
+    ensures { λ r. ⌜ r ≡ (ltb (a .0) (b .0) || (eqb (a .0) (b .0) && tie)) ⌝ }
+{
+    if a.earlier(b) {
+        return true;
+    }
+    if a.same(b) {
+        return tie;
+    }
+    false
+}
+
+// Whether job i comes before job j in the order: by deadline, then by release, then by number.
+pub fn comes_before(times: &[u32], i: usize, j: usize) -> bool
+    requires { ⌜ (2 * i + 1 < length (now times)) × (2 * j + 1 < length (now times)) ⌝ }
+    ensures { λ r. ⌜ r ≡ comesBefore (timed [] (now (times .entry))) i j ⌝ }
+{
+    let by_release = first_key(release_of(times, i), release_of(times, j), i < j);
+    first_key(deadline_of(times, i), deadline_of(times, j), by_release)
+}
+
+// Whether a job waits for the processor: released, not finished, and started where only started jobs are asked for.
+fn is_candidate(release: Instant, tick: u32, executed: u32, cost: u32, started_only: bool) -> bool
+    ensures { λ r. ⌜ r ≡ (leb (release .0) tick && ltb executed cost && (not «started_only» || ltb 0 executed)) ⌝ }
+{
+    if tick < release.0 {
+        return false;
+    }
+    if cost <= executed {
+        return false;
+    }
+    if started_only {
+        return 0 < executed;
+    }
+    true
+}
+
+// The turn of the choice: job j against the best so far.
+fn turn(jobs: &[u32], times: &[u32], tick: u32, executed: &[u32], started_only: bool, j: usize, best: Found) -> Found
+    requires { ⌜ Sized (now jobs) (now times) (now executed) × (j < length (now executed)) × Within best (length (now executed)) ⌝ }
+    ensures {
+      λ r. ⌜ Within r (length (now (executed .entry)))
+        × (asOption r ≡ better (comesBefore (timed (now (jobs .entry)) (now (times .entry)))) (candidate «started_only» (timed (now (jobs .entry)) (now (times .entry))) (at tick (now (executed .entry))) j) j (asOption best)) ⌝
+    }
+{
+    if !is_candidate(release_of(times, j), tick, executed[j], jobs[3 * j + 1], started_only) {
+        return best;
+    }
+    match best {
+        Found::Nothing => Found::At(j),
+        Found::At(old) => {
+            if comes_before(times, j, old) {
+                Found::At(j)
+            } else {
+                best
+            }
+        }
+    }
+}
+
+// The first pending job in the order, or the first started one of them.
+pub fn first_job(jobs: &[u32], times: &[u32], tick: u32, executed: &[u32], started_only: bool) -> Found
+    requires { ⌜ Sized (now jobs) (now times) (now executed) ⌝ }
+    ensures {
+      λ r. ⌜ Within r (length (now (executed .entry)))
+        × (asOption r ≡ first (comesBefore (timed (now (jobs .entry)) (now (times .entry)))) (candidate «started_only» (timed (now (jobs .entry)) (now (times .entry))) (at tick (now (executed .entry)))) (length (now (executed .entry)))) ⌝
+    }
+{
+    let n = executed.len();
+    let mut best = Found::Nothing;
+    let mut j = 0;
+    while j < n {
+        best = turn(jobs, times, tick, executed, started_only, j, best);
+        j += 1;
+    }
+    best
+}

@@ -1,0 +1,2 @@
+// One tick, a whole run, lateness.
+mod choice;
