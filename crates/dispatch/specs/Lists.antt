@@ -1,12 +1,14 @@
 -- Plans and states as the lists that an entry is handed.
-use mathlib.Core.Bool.{Bool, not, _&&_, _||_}
+use mathlib.Core.Bool.{Bool, cond, not, _&&_, _||_}
 use mathlib.Core.List.{List, []}
 use mathlib.Core.Option.{Option, none, some}
 use mathlib.Core.Path.{_≡_}
-use Prim.Native.Nat.{ℕ, _*_, _<_}
-use lib.ListN.{length}
-use Rattle.rules.specs.Table.{Table, Plan, State}
-use Rattle.rules.specs.Tick.{pending, started}
+use Prim.Native.Nat.{ℕ, _+_, _*_, _/_, _≤_, _<_}
+use lib.ListN.{length, getD}
+use lib.Dec.{ltb, eqb}
+use Rattle.rules.specs.Rows.{sum}
+use Rattle.rules.specs.Table.{Table, Plan, State, resources, owner, resource, span}
+use Rattle.rules.specs.Tick.{pending, started, heldOn}
 use Rattle.dispatch.specs.declared.choice.Found.{Found}
 use Rattle.dispatch.specs.declared.choice.Found.the-variants.{At, Nothing}
 
@@ -43,3 +45,17 @@ candidate startedOnly p st j = pending p st j && (not startedOnly || started st 
 pub record Sized (jobs times executed : List ℕ) : Type 0 where
   pub by-job : length jobs ≡ 3 * length executed
   pub pairs : length times ≡ 2 * length executed
+
+-- sections are few, and each names a job and a resource
+pub record SectionsFit (sections : List ℕ) (n : ℕ) : Type 0 where
+  pub few : length sections ≤ 512
+  pub inside : (s : ℕ) → s < length sections / 4 → (getD sections (4 * s) 0 < n) × (getD sections (4 * s + 1) 0 < resources)
+
+-- the units of each resource that pending jobs hold in the first m sections
+pub record HeldTo (p : Plan) (st : State) (m : ℕ) (units : List ℕ) : Type 0 where
+  pub all-listed : length units ≡ resources
+  pub are : (q : ℕ) → q < resources → getD units q 0 ≡ sum (λ s. cond (heldOn p st q s) 1 0) m
+
+-- nothing of the section's resource is held, or the span is below the section's owner's
+unfoldable pub clearOf : Plan → ℕ → List ℕ → ℕ → Bool
+clearOf p d units s = eqb (getD units (resource (p .table) s) 0) 0 || ltb d (span p (owner (p .table) s))

@@ -8,9 +8,10 @@ ghost use mathlib.Core.Bool.{not, _&&_, _||_};
 ghost use Prim.Native.Nat.{ℕ, _+_, _*_, _/_, _-_, _<_, _≤_};
 ghost use lib.Dec.{ltb, leb, eqb};
 ghost use lib.ListN.{length, getD};
-ghost use Rattle.rules.specs.Rows.{first, better};
+ghost use Rattle.rules.specs.Rows.{all, first, better};
+ghost use Rattle.rules.specs.Tick.{holds, pending, chosen};
 ghost use Rattle.rules.specs.Order.{comesBefore};
-ghost use Rattle.dispatch.specs.Lists.{plan, timed, at, asOption, Within, candidate, Sized};
+ghost use Rattle.dispatch.specs.Lists.{plan, timed, at, asOption, Within, candidate, Sized, SectionsFit, HeldTo, clearOf};
 
 // A job that was looked for.
 pub enum Found {
@@ -119,4 +120,107 @@ pub fn first_job(jobs: &[u32], times: &[u32], tick: u32, executed: &[u32], start
         j += 1;
     }
     best
+}
+
+// A number of a section's row.
+fn entry(sections: &[u32], k: usize) -> usize
+    requires { ⌜ k < length (now sections) ⌝ }
+    ensures { λ r. ⌜ r ≡ getD (now (sections .entry)) k 0 ⌝ }
+{
+    sections[k] as usize
+}
+
+// Whether a pending job holds section s.
+fn is_held(jobs: &[u32], sections: &[u32], times: &[u32], tick: u32, executed: &[u32], s: usize) -> bool
+    requires { ⌜ Sized (now jobs) (now times) (now executed) × SectionsFit (now sections) (length (now executed)) × (s < length (now sections) / 4) ⌝ }
+    ensures {
+      λ r. ⌜ r ≡ (holds (plan (now (jobs .entry)) [] (now (sections .entry)) (now (times .entry))) (at tick (now (executed .entry))) s
+        && pending (timed (now (jobs .entry)) (now (times .entry))) (at tick (now (executed .entry))) (getD (now (sections .entry)) (4 * s) 0)) ⌝
+    }
+{
+    let job = entry(sections, 4 * s);
+    let done = executed[job];
+    if done <= sections[4 * s + 2] {
+        return false;
+    }
+    if sections[4 * s + 3] <= done {
+        return false;
+    }
+    is_candidate(release_of(times, job), tick, done, jobs[3 * job + 1], false)
+}
+
+// How many units of each resource pending jobs hold.
+fn held_units(jobs: &[u32], sections: &[u32], times: &[u32], tick: u32, executed: &[u32]) -> [u32; 16]
+    requires { ⌜ Sized (now jobs) (now times) (now executed) × SectionsFit (now sections) (length (now executed)) ⌝ }
+    ensures {
+      λ r. ⌜ HeldTo (plan (now (jobs .entry)) [] (now (sections .entry)) (now (times .entry))) (at tick (now (executed .entry)))
+        (length (now (sections .entry)) / 4) r ⌝
+    }
+{
+    let many = sections.len() / 4;
+    let mut units = [0u32; 16];
+    let mut s = 0;
+    while s < many {
+        if is_held(jobs, sections, times, tick, executed, s) {
+            let q = entry(sections, 4 * s + 1);
+            units[q] += 1;
+        }
+        s += 1;
+    }
+    units
+}
+
+// Whether nothing is held of the resource of section s, or this span is below that of the job that owns the section.
+fn clears(span: Span, sections: &[u32], times: &[u32], units: [u32; 16], s: usize) -> bool
+    requires { ⌜ SectionsFit (now sections) (length (now times) / 2) × (s < length (now sections) / 4) ⌝ }
+    ensures { λ r. ⌜ r ≡ clearOf (plan [] [] (now (sections .entry)) (now (times .entry))) (span .0) units s ⌝ }
+{
+    let q = entry(sections, 4 * s + 1);
+    if units[q] == 0 {
+        return true;
+    }
+    let job = entry(sections, 4 * s);
+    span.below(span_of(times, job))
+}
+
+// Whether a job of this span is below the ceiling of every resource of which units are held.
+fn may_start(span: Span, sections: &[u32], times: &[u32], units: [u32; 16]) -> bool
+    requires { ⌜ SectionsFit (now sections) (length (now times) / 2) ⌝ }
+    ensures {
+      λ r. ⌜ r ≡ all (clearOf (plan [] [] (now (sections .entry)) (now (times .entry))) (span .0) units) (length (now (sections .entry)) / 4) ⌝
+    }
+{
+    let many = sections.len() / 4;
+    let mut s = 0;
+    while s < many {
+        if !clears(span, sections, times, units, s) {
+            return false;
+        }
+        s += 1;
+    }
+    true
+}
+
+// The job that runs in this tick, if one does.
+pub fn choose(jobs: &[u32], sections: &[u32], times: &[u32], tick: u32, executed: &[u32]) -> Found
+    requires { ⌜ Sized (now jobs) (now times) (now executed) × SectionsFit (now sections) (length (now executed)) ⌝ }
+    ensures {
+      λ r. ⌜ Within r (length (now (executed .entry)))
+        × (asOption r ≡ chosen (plan (now (jobs .entry)) [] (now (sections .entry)) (now (times .entry))) (at tick (now (executed .entry)))) ⌝
+    }
+{
+    let first = first_job(jobs, times, tick, executed, false);
+    match first {
+        Found::Nothing => first,
+        Found::At(job) => {
+            if 0 < executed[job] {
+                return first;
+            }
+            let units = held_units(jobs, sections, times, tick, executed);
+            if may_start(span_of(times, job), sections, times, units) {
+                return first;
+            }
+            first_job(jobs, times, tick, executed, true)
+        }
+    }
 }

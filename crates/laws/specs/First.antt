@@ -67,3 +67,9 @@ module _ (before : ℕ → ℕ → Bool) (passes : ℕ → Bool) (O : Order befo
   unfolding first
   first-of zero = nobody (λ k l. absurd (omega arith))
   first-of (suc n) = turn n (better-view before n (passes n) (first before passes n)) refl (first-of n)
+
+-- tests that agree find the same first
+pub first-ext : (before : ℕ → ℕ → Bool) (f g : ℕ → Bool) → ((k : ℕ) → f k ≡ g k) → (n : ℕ) → first before f n ≡ first before g n
+unfolding first
+first-ext before f g same zero = refl
+first-ext before f g same (suc n) = rw (first-ext before f g same n, same n)

@@ -3,6 +3,7 @@ pub mod Tests
 pub mod Rows
 pub mod First
 pub mod Order
+pub mod Clears
 pub mod Reach
 pub mod Times
 pub mod Refusals

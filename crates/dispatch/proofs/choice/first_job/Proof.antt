@@ -43,7 +43,7 @@ loop-again c = (omega arith, c .turn .ensures .0, c .turn .ensures .1 ∙ ap (be
 -- src/choice.rt:109:1
 returns : tie.Need-returns Inv-loop μ-loop
 returns c =
-    let e : c .before .loop .j ≡ length (c .before .before .before .args .executed .now) = omega arith in
+    let e : c .before .loop .j ≡ length (c .before .before .before .before .before .args .executed .now) = omega arith in
     (c .before .loop .inv .1, rw (← e) (c .before .loop .inv .2))
 
 pub first-job-spec : {M : Type 1} → statement M

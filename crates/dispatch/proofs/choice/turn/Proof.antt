@@ -100,7 +100,7 @@ returns-4 : tie.Need-returns-4
 unfolding comesBefore
 returns-4 c =
     let b = c .before .before .before in
-    (rw (b .best .given .1) (known b),
+    (known b,
     rw (passing (b .before .before), b .best .given .1) (sym (better-is (stayed (sym (c .before .comes-before .ensures) ∙ c .if2 .left)))))
 
 pub turn-spec : {M : Type 1} → statement M

@@ -1,0 +1,137 @@
+-- Laws for the choice: the units that one pass over the sections counts, and that the ceilings compared section by section are
+-- 01's test.
+use mathlib.Core.Path.{_≡_, refl, sym, _∙_, ap}
+use mathlib.Core.Logic.{_≢_, _⊎_, inl, inr, ⊎-elim}
+use mathlib.Core.Bool.{Bool, true, false, cond, not, _&&_, _||_, and-true, and-false}
+use mathlib.Core.List.{List, []}
+use mathlib.Core.Option.{Option, none, some}
+use Prim.Native.Nat.{ℕ, zero, suc, _+_, _*_, _/_, _≤_, _<_}
+use native.Mathlib.Decide.{ℕ-discrete}
+use native.Mathlib.Omega.{arith}
+use lib.ListN.{length, getD, set, replicate, length-set, getD-replicate}
+use lib.Seq.{getD-set-same, getD-set-other}
+use lib.Dec.{ltb, eqb}
+use borrow.Author.Tests.{eq-eqb, ne-eqb}
+use Rattle.rules.specs.Rows.{all, sum, first}
+use Rattle.rules.specs.Table.{Plan, State, resources, jobCount, sectionCount, owner, resource, span}
+use Rattle.rules.specs.Order.{comesBefore}
+use Rattle.rules.specs.Tick.{pending, started, holds, units, heldOn, held, clears, mayStart, firstPending, firstStarted, choose, chosen}
+use Rattle.laws.specs.Tests.{Says, so, not-so, tested, clash, lt-says, eq-says, says-map, says-or, yes-says, no-says, yes-of, no-of}
+use Rattle.laws.specs.Rows.{sum-more, sum-most, sum-none, sum-term, all-says}
+use Rattle.laws.specs.First.{first-ext}
+use Rattle.laws.specs.Clears.{SectionOn, clears-says, may-says}
+use Rattle.dispatch.specs.Lists.{candidate, HeldTo, clearOf}
+
+-- ---- units held, section by section
+
+module _ (p : Plan) (st : State) where
+  pub held-start : HeldTo p st 0 (replicate resources 0)
+  unfolding sum
+  held-start = record { all-listed = refl; are = λ q l. getD-replicate resources q 0 0 l }
+
+  -- section m is not held
+  pub held-skip : {m : ℕ} {u : List ℕ} → HeldTo p st m u → (holds p st m && pending p st (owner (p .table) m)) ≡ false → HeldTo p st (m + 1) u
+  unfolding heldOn
+  held-skip {m} {u} h e =
+      record
+      { all-listed = h .all-listed
+      ; are = λ q l. rw (sum-more, e, and-false (eqb (resource (p .table) m) q)) (omega (arith, h .are q l))
+      }
+
+  -- section m is held, and its resource counts one more
+  pub held-more : {m : ℕ} {u : List ℕ} → HeldTo p st m u → (holds p st m && pending p st (owner (p .table) m)) ≡ true
+      → resource (p .table) m < resources
+      → HeldTo p st (m + 1) (set u (resource (p .table) m) (getD u (resource (p .table) m) 0 + 1))
+  unfolding heldOn
+  held-more {m} {u} h e l =
+      record
+      { all-listed = rw length-set (h .all-listed)
+      ; are = λ q k.
+          elim (ℕ-discrete q (resource (p .table) m))
+          [ yes z ↦
+              rw (sum-more, e, z, eq-eqb (resource (p .table) m) (resource (p .table) m) refl, getD-set-same u (resource (p .table) m) (getD u (resource (p .table) m) 0 + 1) 0 (omega (arith, h .all-listed)))
+              (omega (arith, h .are (resource (p .table) m) l))
+          | no z ↦
+              rw (sum-more, e, ne-eqb (resource (p .table) m) q (λ w. z (sym w)), getD-set-other u (resource (p .table) m) q (getD u (resource (p .table) m) 0 + 1) 0 z)
+              (omega (arith, h .are q k)) ]
+      }
+
+  -- no more units than sections
+  pub held-few : {m : ℕ} {u : List ℕ} → HeldTo p st m u → (q : ℕ) → q < resources → getD u q 0 ≤ m
+  held-few {m} {u} h q l =
+      omega (arith, h .are q l, sum-most (λ s. cond (heldOn p st q s) 1 0) 1 m (λ k z. bit (heldOn p st q k)))
+    where
+      bit : (b : Bool) → cond b 1 0 ≤ 1
+      bit true = omega arith
+      bit false = omega arith
+
+-- ---- ceilings, section by section
+
+module _ (p : Plan) (st : State) (u : List ℕ) (h : HeldTo p st (sectionCount (p .table)) u)
+    (fit : (s : ℕ) → s < sectionCount (p .table) → resource (p .table) s < resources) where
+  held-is : (q : ℕ) → q < resources → getD u q 0 ≡ held p st q
+  unfolding held
+  held-is q l = h .are q l
+
+  pub may-start-is : (j d : ℕ) → d ≡ span p j → all (clearOf p d u) (sectionCount (p .table)) ≡ mayStart p st j
+  unfolding clearOf
+  may-start-is j d e =
+      rw e
+      (go
+      (all-says _ _ _ (λ s. says-or (eq-says (getD u (resource (p .table) s) 0) 0) (lt-says (span p j) (span p (owner (p .table) s)))) (sectionCount (p .table)))
+      (may-says p st j))
+    where
+      go : {a b : Bool}
+          → Says
+          ((s : ℕ) → s < sectionCount (p .table) → (getD u (resource (p .table) s) 0 ≡ 0) ⊎ (span p j < span p (owner (p .table) s)))
+          ((s : ℕ) × (s < sectionCount (p .table)) × ((getD u (resource (p .table) s) 0 ≢ 0) × (span p (owner (p .table) s) ≤ span p j)))
+          a
+          → Says
+          ((q : ℕ) → q < resources → clears p (span p j) q (held p st q) ≡ true)
+          ((q : ℕ) × (q < resources) × (clears p (span p j) q (held p st q) ≡ false))
+          b
+          → a ≡ b
+      go (so x) (so y) = refl
+      go (not-so x) (not-so y) = refl
+      go (so x) (not-so (q, l, e)) =
+          let (busy, w) = no-says (clears-says p (span p j) q (held p st q)) e in
+          ⊎-elim
+          (λ z. absurd (busy (sym (held-is q l) ∙ ap (λ k. getD u k 0) (sym (w .1 .on)) ∙ z)))
+          (λ f. absurd (omega (arith, f, w .2)))
+          (x (w .0) (w .1 .listed))
+      go (not-so (s, l, n)) (so y) =
+          ⊎-elim
+          (λ z. absurd (n .0 (held-is (resource (p .table) s) (fit s l) ∙ z)))
+          (λ f. absurd (omega (arith, n .1, f s (record { listed = l; on = refl }))))
+          (yes-says (clears-says p (span p j) (resource (p .table) s) (held p st (resource (p .table) s))) (y (resource (p .table) s) (fit s l)))
+
+-- ---- the first jobs
+
+module _ (p : Plan) (st : State) (n : ℕ) (e : jobCount (p .table) ≡ n) where
+  pub first-pending-is : first (comesBefore p) (candidate false p st) n ≡ firstPending p st
+  unfolding firstPending candidate
+  first-pending-is = rw (← e) (first-ext (comesBefore p) (candidate false p st) (pending p st) (λ k. and-true (pending p st k)) (jobCount (p .table)))
+
+  pub first-started-is : first (comesBefore p) (candidate true p st) n ≡ firstStarted p st
+  unfolding firstStarted candidate
+  first-started-is = rw (← e) refl
+
+-- ---- the choice, each way out
+
+module _ (p : Plan) (st : State) where
+  pub chosen-idle : firstPending p st ≡ none → chosen p st ≡ none
+  unfolding chosen
+  chosen-idle e = rw e
+
+  module _ (j : ℕ) (e : firstPending p st ≡ some j) where
+    pub chosen-resumes : started st j ≡ true → chosen p st ≡ some j
+    unfolding chosen
+    chosen-resumes s = rw (e, s)
+
+    pub chosen-starts : started st j ≡ false → mayStart p st j ≡ true → chosen p st ≡ some j
+    unfolding chosen
+    chosen-starts s m = rw (e, s, m)
+
+    pub chosen-detains : started st j ≡ false → mayStart p st j ≡ false → chosen p st ≡ firstStarted p st
+    unfolding chosen
+    chosen-detains s m = rw (e, s, m)
