@@ -15,12 +15,13 @@ use borrow.Author.Tests.{eq-eqb, ne-eqb}
 use Rattle.rules.specs.Rows.{all, sum, first}
 use Rattle.rules.specs.Table.{Plan, State, resources, jobCount, sectionCount, owner, resource, span}
 use Rattle.rules.specs.Order.{comesBefore}
-use Rattle.rules.specs.Tick.{pending, started, holds, units, heldOn, held, clears, mayStart, firstPending, firstStarted, choose, chosen}
-use Rattle.laws.specs.Tests.{Says, so, not-so, tested, clash, lt-says, eq-says, says-map, says-or, yes-says, no-says, yes-of, no-of}
-use Rattle.laws.specs.Rows.{sum-more, sum-most, sum-none, sum-term, all-says}
-use Rattle.laws.specs.First.{first-ext}
+use Rattle.rules.specs.Tick.{pending, started, holds, units, tightest, spanOf, belowCeiling, heldOn, held, clears, mayStart, firstPending, firstStarted, choose, chosen, advance, tick}
+use Rattle.laws.specs.Tests.{Says, so, not-so, tested, clash, lt-says, eq-says, bool-says, says-map, says-and, says-or, yes-says, no-says, yes-of, no-of}
+use Rattle.laws.specs.Rows.{sum-more, sum-most, all-says, all-ext}
+use Rattle.laws.specs.First.{FirstOf, nobody, found, first-of, first-ext}
+use Rattle.laws.specs.Order.{before-order}
 use Rattle.laws.specs.Clears.{SectionOn, clears-says, may-says}
-use Rattle.dispatch.specs.Lists.{candidate, HeldTo, clearOf}
+use Rattle.dispatch.specs.Lists.{plan, state, at, candidate, HeldTo, clearOf}
 
 -- ---- units held, section by section
 
@@ -135,3 +136,67 @@ module _ (p : Plan) (st : State) where
     pub chosen-detains : started st j ≡ false → mayStart p st j ≡ false → chosen p st ≡ firstStarted p st
     unfolding chosen
     chosen-detains s m = rw (e, s, m)
+
+-- ---- who is chosen is pending
+
+first-passes : {before : ℕ → ℕ → Bool} {passes : ℕ → Bool} {n : ℕ} {o : Option ℕ} → FirstOf before passes n o → (j : ℕ) → o ≡ some j → passes j ≡ true
+first-passes (nobody h) j e = let z : _≡_ {A = ℕ} 0 1 = cc in absurd (omega arith)
+first-passes {passes = passes} (found {x} l p h) j e = let q : x ≡ j = cc in rw (← q) p
+
+pub chosen-pending : (p : Plan) (st : State) (j : ℕ) → chosen p st ≡ some j → pending p st j ≡ true
+unfolding chosen firstPending firstStarted
+chosen-pending p st j e =
+    go (first (comesBefore p) (pending p st) (jobCount (p .table))) (first-of (comesBefore p) (pending p st) (before-order p) (jobCount (p .table))) e
+  where
+    late : firstStarted p st ≡ some j → pending p st j ≡ true
+    late q =
+        yes-says
+        (says-and (bool-says (pending p st j)) (bool-says (started st j)))
+        (first-passes (first-of (comesBefore p) (λ k. pending p st k && started st k) (before-order p) (jobCount (p .table))) j q)
+        .0
+
+    pick : (x : ℕ) (b : Bool) → pending p st x ≡ true → cond b (some x) (firstStarted p st) ≡ some j → pending p st j ≡ true
+    pick x true h q = let z : x ≡ j = cc in rw (← z) h
+    pick x false h q = late q
+
+    go : (o : Option ℕ) → FirstOf (comesBefore p) (pending p st) (jobCount (p .table)) o → choose p st o ≡ some j → pending p st j ≡ true
+    go none f q = let z : _≡_ {A = ℕ} 0 1 = cc in absurd (omega arith)
+    go (some x) f q = pick x (started st x || mayStart p st x) (first-passes f x refl) q
+
+-- ---- the tick, each way out
+
+module _ (p : Plan) (st : State) (silent : Bool) where
+  pub tick-idle : chosen p st ≡ none
+      → record { tick = st .tick + 1; executed = st .executed; marks = st .marks; finish = st .finish } ≡ tick p st silent
+  unfolding tick
+  tick-idle e = rw e
+
+  pub tick-runs : (j : ℕ) → chosen p st ≡ some j → advance p st silent j ≡ tick p st silent
+  unfolding tick
+  tick-runs j e = rw e
+
+-- ---- the choice looks at neither arcs nor marks nor finishes
+
+module _ (jobs arcs sections times : List ℕ) (t : ℕ) (e m f : List ℕ) where
+  span-same : (o : Option ℕ) → spanOf (plan jobs [] sections times) o ≡ spanOf (plan jobs arcs sections times) o
+  span-same none = refl
+  span-same (some s) = refl
+
+  clears-same : (d q busy : ℕ) → clears (plan jobs [] sections times) d q busy ≡ clears (plan jobs arcs sections times) d q busy
+  unfolding clears
+  clears-same d q busy =
+      ap (λ o. eqb busy 0 || belowCeiling d o) (span-same (tightest (plan jobs [] sections times) q))
+
+  may-start-same : (j : ℕ) → mayStart (plan jobs [] sections times) (at t e) j ≡ mayStart (plan jobs arcs sections times) (state t e m f) j
+  unfolding mayStart
+  may-start-same j =
+      all-ext _ _ resources
+      (λ q l. clears-same (span (plan jobs [] sections times) j) q (held (plan jobs [] sections times) (at t e) q))
+
+  pub chosen-same : chosen (plan jobs [] sections times) (at t e) ≡ chosen (plan jobs arcs sections times) (state t e m f)
+  unfolding chosen
+  chosen-same = go (firstPending (plan jobs [] sections times) (at t e))
+    where
+      go : (o : Option ℕ) → choose (plan jobs [] sections times) (at t e) o ≡ choose (plan jobs arcs sections times) (state t e m f) o
+      go none = refl
+      go (some j) = rw (may-start-same j)

@@ -4,11 +4,12 @@ use mathlib.Core.List.{List, []}
 use mathlib.Core.Option.{Option, none, some}
 use mathlib.Core.Path.{_≡_}
 use Prim.Native.Nat.{ℕ, _+_, _*_, _/_, _≤_, _<_}
+use native.Mathlib.Omega.{arith}
 use lib.ListN.{length, getD}
 use lib.Dec.{ltb, eqb}
 use Rattle.rules.specs.Rows.{sum}
 use Rattle.rules.specs.Table.{Table, Plan, State, resources, owner, resource, span}
-use Rattle.rules.specs.Tick.{pending, started, heldOn}
+use Rattle.rules.specs.Tick.{pending, started, heldOn, chosen, tick}
 use Rattle.dispatch.specs.declared.choice.Found.{Found}
 use Rattle.dispatch.specs.declared.choice.Found.the-variants.{At, Nothing}
 
@@ -59,3 +60,29 @@ pub record HeldTo (p : Plan) (st : State) (m : ℕ) (units : List ℕ) : Type 0 
 -- nothing of the section's resource is held, or the span is below the section's owner's
 unfoldable pub clearOf : Plan → ℕ → List ℕ → ℕ → Bool
 clearOf p d units s = eqb (getD units (resource (p .table) s) 0) 0 || ltb d (span p (owner (p .table) s))
+
+-- every arc names jobs
+pub record ArcsFit (arcs : List ℕ) (n : ℕ) : Type 0 where
+  pub inside : (a : ℕ) → a < length arcs / 2 → (getD arcs (2 * a) 0 < n) × (getD arcs (2 * a + 1) 0 < n)
+
+-- a state's lists are as long as the plan's jobs
+pub record Same (jobs executed marks finish : List ℕ) : Type 0 where
+  pub by-job : length jobs ≡ 3 * length executed
+  pub marked : length marks ≡ length executed
+  pub finished : length finish ≡ length executed
+
+-- a plan and a state that were judged
+pub record Fit (jobs arcs sections times executed marks finish : List ℕ) : Type 0 where
+  pub lists : Same jobs executed marks finish
+  pub pairs : length times ≡ 2 * length executed
+  pub arcs-fit : ArcsFit arcs (length executed)
+  pub sections-fit : SectionsFit sections (length executed)
+
+-- one tick: who ran, and the state after it
+pub record Ticked (p : Plan) (st : State) (silent : Bool) (ran : Option ℕ) (st′ : State) : Type 0 where
+  pub who : ran ≡ chosen p st
+  pub becomes : st′ ≡ tick p st silent
+
+pub within-at : (f : Found) (n j : ℕ) → Within f n → f ≡ At j → j < n
+within-at (At i) n j h e = let q : i ≡ j = cc in omega arith
+within-at Nothing n j h e = let z : _≡_ {A = ℕ} 0 1 = cc in absurd (omega arith)

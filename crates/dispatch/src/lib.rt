@@ -1,2 +1,3 @@
 // One tick, a whole run, lateness.
 mod choice;
+mod tick;

@@ -1,0 +1,72 @@
+-- Laws for the mark rule: looking through the arcs for a stale tail is looking through the direct predecessors.
+use mathlib.Core.Path.{_≡_, refl, sym, _∙_, ap}
+use mathlib.Core.Logic.{_≢_, _⊎_, inl, inr, ⊎-elim}
+use mathlib.Core.Bool.{Bool, true, false, _&&_, _||_}
+use mathlib.Core.List.{List, []}
+use Prim.Native.Nat.{ℕ, _+_, _*_, _/_, _≤_, _<_}
+use native.Mathlib.Omega.{arith}
+use lib.ListN.{length, getD, set}
+use lib.Dec.{eqb}
+use Rattle.rules.specs.Rows.{any}
+use borrow.Author.Tests.{eq-eqb, ne-eqb}
+use Rattle.rules.specs.Table.{precedes}
+use Rattle.rules.specs.Tick.{ends, endsBadly, endsStale, markFor, advance}
+use Rattle.laws.specs.Tests.{Says, so, not-so, clash, bool-says, eq-says, says-and, yes-says, no-says, yes-of}
+use Rattle.laws.specs.Rows.{any-says}
+use Rattle.laws.specs.Reach.{Arc, precedes-says}
+use Rattle.dispatch.specs.Lists.{plan, state, ArcsFit}
+
+-- arc a leads from a stale job to this one
+unfoldable pub bringsStale : List ℕ → List ℕ → ℕ → ℕ → Bool
+bringsStale arcs marks job a = eqb (getD arcs (2 * a + 1) 0) job && eqb (getD marks (getD arcs (2 * a) 0) 0) 2
+
+-- a direct predecessor of the job, of n jobs, is marked stale
+unfoldable pub staleBefore : List ℕ → List ℕ → ℕ → ℕ → Bool
+unfolding any precedes
+staleBefore arcs marks job n = any (λ i. precedes (plan [] arcs [] [] .table) i job && eqb (getD marks i 0) 2) n
+
+module _ (arcs marks : List ℕ) (job n : ℕ) (fit : ArcsFit arcs n) where
+  pub stale-by-arcs : any (bringsStale arcs marks job) (length arcs / 2) ≡ staleBefore arcs marks job n
+  unfolding staleBefore bringsStale
+  stale-by-arcs =
+      go
+      (any-says _ _ _ (λ a. says-and (eq-says (getD arcs (2 * a + 1) 0) job) (eq-says (getD marks (getD arcs (2 * a) 0) 0) 2)) (length arcs / 2))
+      (any-says _ _ _ (λ i. says-and (precedes-says (plan [] arcs [] [] .table) i job) (eq-says (getD marks i 0) 2)) n)
+    where
+      go : {x y : Bool}
+          → Says
+          ((a : ℕ) × (a < length arcs / 2) × ((getD arcs (2 * a + 1) 0 ≡ job) × (getD marks (getD arcs (2 * a) 0) 0 ≡ 2)))
+          ((a : ℕ) → a < length arcs / 2 → (getD arcs (2 * a + 1) 0 ≢ job) ⊎ (getD marks (getD arcs (2 * a) 0) 0 ≢ 2))
+          x
+          → Says
+          ((i : ℕ) × (i < n) × (Arc (plan [] arcs [] [] .table) i job × (getD marks i 0 ≡ 2)))
+          ((i : ℕ) → i < n → (Arc (plan [] arcs [] [] .table) i job → ⊥) ⊎ (getD marks i 0 ≢ 2))
+          y
+          → x ≡ y
+      go (so w) (so v) = refl
+      go (not-so w) (not-so v) = refl
+      go (so (a, l, e)) (not-so v) =
+          ⊎-elim
+          (λ k. absurd (k (record { number = a; in-table = l; tail = refl; head = e .0 })))
+          (λ k. absurd (k (e .1)))
+          (v (getD arcs (2 * a) 0) (fit .inside a l .0))
+      go (not-so w) (so (i, l, e)) =
+          ⊎-elim
+          (λ k. absurd (k (e .0 .head)))
+          (λ k. absurd (k (ap (λ j. getD marks j 0) (e .0 .tail) ∙ e .1)))
+          (w (e .0 .number) (e .0 .in-table))
+
+-- ---- what a given tick writes, each way out
+
+module _ (jobs arcs executed marks finish : List ℕ) (now : ℕ) (silent : Bool) (job n : ℕ) (count : length jobs / 3 ≡ n) where
+  pub tick-ends : (m : ℕ) → getD executed job 0 + 1 ≡ getD jobs (3 * job + 1) 0 → m ≡ markFor (silent || staleBefore arcs marks job n)
+      → state (now + 1) (set executed job (getD executed job 0 + 1)) (set marks job m) (set finish job (now + 1))
+      ≡ advance (plan jobs arcs [] []) (state now executed marks finish) silent job
+  unfolding advance ends endsStale endsBadly staleBefore
+  tick-ends m e q = rw (q, eq-eqb _ _ e, ← count)
+
+  pub tick-goes-on : (getD executed job 0 + 1 ≡ getD jobs (3 * job + 1) 0 → ⊥)
+      → state (now + 1) (set executed job (getD executed job 0 + 1)) marks finish
+      ≡ advance (plan jobs arcs [] []) (state now executed marks finish) silent job
+  unfolding advance ends
+  tick-goes-on e = rw (ne-eqb _ _ e)

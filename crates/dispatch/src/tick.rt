@@ -1,0 +1,163 @@
+// What a tick writes, and whether a run is over.
+use crate::choice;
+use crate::choice::Found;
+ghost use mathlib.Core.Path.{_≡_};
+ghost use mathlib.Core.Bool.{_&&_, _||_};
+ghost use mathlib.Core.List.{[]};
+ghost use Prim.Native.Nat.{ℕ, _+_, _*_, _/_, _%_, _-_, _<_, _≤_};
+ghost use lib.Dec.{ltb, leb, eqb};
+ghost use lib.ListN.{length, getD};
+ghost use Rattle.rules.specs.Rows.{all, any};
+ghost use Rattle.rules.specs.Refusals.{allFinished, jobStateRight, stateInBounds};
+ghost use Rattle.rules.specs.Tick.{markFor, advance};
+ghost use Rattle.dispatch.specs.Marks.{bringsStale, staleBefore};
+ghost use Rattle.dispatch.specs.Lists.{plan, timed, state, at, asOption, Within, Sized, SectionsFit, ArcsFit, Same, Fit, Ticked};
+
+// Whether arc a leads from a stale job to this one.
+fn brings_stale(arcs: &[u32], marks: &[u32], job: usize, a: usize) -> bool
+    requires { ⌜ ArcsFit (now arcs) (length (now marks)) × (a < length (now arcs) / 2) ⌝ }
+    ensures { λ r. ⌜ r ≡ bringsStale (now (arcs .entry)) (now (marks .entry)) job a ⌝ }
+{
+    if arcs[2 * a + 1] as usize != job {
+        return false;
+    }
+    let from = arcs[2 * a] as usize;
+    marks[from] == 2
+}
+
+// Whether a direct predecessor of the job is marked stale.
+fn after_stale(arcs: &[u32], marks: &[u32], job: usize) -> bool
+    requires { ⌜ ArcsFit (now arcs) (length (now marks)) ⌝ }
+    ensures { λ r. ⌜ r ≡ staleBefore (now (arcs .entry)) (now (marks .entry)) job (length (now (marks .entry))) ⌝ }
+{
+    let many = arcs.len() / 2;
+    let mut a = 0;
+    while a < many {
+        if brings_stale(arcs, marks, job, a) {
+            return true;
+        }
+        a += 1;
+    }
+    false
+}
+
+// The mark of a job that ends now.
+fn mark_at_end(arcs: &[u32], marks: &[u32], silent: bool, job: usize) -> u32
+    requires { ⌜ ArcsFit (now arcs) (length (now marks)) ⌝ }
+    ensures { λ r. ⌜ r ≡ markFor (silent || staleBefore (now (arcs .entry)) (now (marks .entry)) job (length (now (marks .entry)))) ⌝ }
+{
+    if silent {
+        return 2;
+    }
+    if after_stale(arcs, marks, job) {
+        return 2;
+    }
+    1
+}
+
+// Gives the job this tick; one that ends with it is marked, and its finish is the tick after it.
+fn give_tick(jobs: &[u32], arcs: &[u32], tick: u32, executed: &mut [u32], marks: &mut [u32], finish: &mut [u32], silent: bool, job: usize)
+    requires { ⌜ Same (now jobs) (now executed) (now marks) (now finish) × ArcsFit (now arcs) (length (now marks)) × (job < length (now executed)) ⌝ }
+    requires { ⌜ (getD (now executed) job 0 < getD (now jobs) (3 * job + 1) 0) × (tick < 10000000) ⌝ }
+    ensures {
+      λ r. ⌜ state (tick + 1) (now (executed .exit)) (now (marks .exit)) (now (finish .exit))
+        ≡ advance (plan (now (jobs .entry)) (now (arcs .entry)) [] []) (state tick (now (executed .entry)) (now (marks .entry)) (now (finish .entry))) silent job ⌝
+    }
+{
+    let done = executed[job] + 1;
+    executed[job] = done;
+    if done == jobs[3 * job + 1] {
+        marks[job] = mark_at_end(arcs, marks, silent, job);
+        finish[job] = tick + 1;
+    }
+}
+
+// One tick of a plan and a state that were judged: who ran.
+pub fn one_tick(jobs: &[u32], arcs: &[u32], sections: &[u32], times: &[u32], tick: u32, executed: &mut [u32], marks: &mut [u32], finish: &mut [u32], silent: bool) -> Found
+    requires { ⌜ Fit (now jobs) (now arcs) (now sections) (now times) (now executed) (now marks) (now finish) × (tick < 10000000) ⌝ }
+    ensures {
+      λ r. ⌜ Ticked (plan (now (jobs .entry)) (now (arcs .entry)) (now (sections .entry)) (now (times .entry)))
+        (state tick (now (executed .entry)) (now (marks .entry)) (now (finish .entry))) silent
+        (asOption r) (state (tick + 1) (now (executed .exit)) (now (marks .exit)) (now (finish .exit))) ⌝
+    }
+{
+    let ran = choice::choose(jobs, sections, times, tick, executed);
+    match ran {
+        Found::Nothing => {}
+        Found::At(job) => give_tick(jobs, arcs, tick, executed, marks, finish, silent, job),
+    }
+    ran
+}
+
+// Whether every job has finished.
+pub fn all_finished(jobs: &[u32], executed: &[u32]) -> bool
+    requires { ⌜ length (now jobs) ≡ 3 * length (now executed) ⌝ }
+    ensures { λ r. ⌜ r ≡ allFinished (timed (now (jobs .entry)) []) (at 0 (now (executed .entry))) ⌝ }
+{
+    let n = executed.len();
+    let mut j = 0;
+    while j < n {
+        if executed[j] != jobs[3 * j + 1] {
+            return false;
+        }
+        j += 1;
+    }
+    true
+}
+
+// Whether what a state says of one job is within bounds.
+fn job_state_right(jobs: &[u32], executed: &[u32], marks: &[u32], finish: &[u32], j: usize) -> bool
+    requires { ⌜ Same (now jobs) (now executed) (now marks) (now finish) × (j < length (now executed)) ⌝ }
+    ensures {
+      λ r. ⌜ r ≡ jobStateRight (timed (now (jobs .entry)) []) (state 0 (now (executed .entry)) (now (marks .entry)) (now (finish .entry))) j ⌝
+    }
+{
+    if jobs[3 * j + 1] < executed[j] {
+        return false;
+    }
+    if 2 < marks[j] {
+        return false;
+    }
+    finish[j] <= 10000000
+}
+
+// Whether a state belongs to this many jobs and is within bounds.
+pub fn state_in_bounds(jobs: &[u32], tick: u32, executed: &[u32], marks: &[u32], finish: &[u32]) -> bool
+    requires { ⌜ length (now jobs) % 3 ≡ 0 ⌝ }
+    ensures {
+      λ r. ⌜ r ≡ stateInBounds (timed (now (jobs .entry)) []) (state tick (now (executed .entry)) (now (marks .entry)) (now (finish .entry))) ⌝
+    }
+{
+    let n = jobs.len() / 3;
+    if executed.len() != n {
+        return false;
+    }
+    if marks.len() != n {
+        return false;
+    }
+    if finish.len() != n {
+        return false;
+    }
+    if 10000000 < tick {
+        return false;
+    }
+    all_states_right(jobs, executed, marks, finish)
+}
+
+// Whether what a state says of each job is within bounds.
+fn all_states_right(jobs: &[u32], executed: &[u32], marks: &[u32], finish: &[u32]) -> bool
+    requires { ⌜ Same (now jobs) (now executed) (now marks) (now finish) ⌝ }
+    ensures {
+      λ r. ⌜ r ≡ all (jobStateRight (timed (now (jobs .entry)) []) (state 0 (now (executed .entry)) (now (marks .entry)) (now (finish .entry)))) (length (now (executed .entry))) ⌝
+    }
+{
+    let n = executed.len();
+    let mut j = 0;
+    while j < n {
+        if !job_state_right(jobs, executed, marks, finish, j) {
+            return false;
+        }
+        j += 1;
+    }
+    true
+}
