@@ -1,5 +1,4 @@
 // The table check with the modified times, and the judgement of a plan that is handed in.
-mod rows;
 use rows::Judged;
 ghost use mathlib.Core.Path.{_≡_};
 ghost use mathlib.Core.List.{[]};
@@ -8,7 +7,8 @@ ghost use lib.ListN.{length};
 ghost use Rattle.rules.specs.Rows.{all};
 ghost use Rattle.rules.specs.Table.{jobCount};
 ghost use Rattle.rules.specs.Refusals.{planInBounds, timesRight};
-ghost use Rattle.plan.specs.Lists.{table, planWith};
+ghost use Rattle.rows.specs.Lists.{table};
+ghost use Rattle.plan.specs.Bounds.{planWith};
 
 const LATEST: u32 = 1_000_000;
 
@@ -34,9 +34,7 @@ fn times_right(jobs: &[u32], times: &[u32], j: usize) -> bool
 // Whether those of every job do.
 fn all_times_right(jobs: &[u32], times: &[u32]) -> bool
     requires { ⌜ 2 * jobCount (table (now jobs) [] []) ≤ length (now times) ⌝ }
-    ensures {
-      λ r. ⌜ r ≡ all (timesRight (planWith (now (jobs .entry)) [] [] (now (times .entry)))) (jobCount (table (now (jobs .entry)) [] [])) ⌝
-    }
+    ensures { λ r. ⌜ r ≡ all (timesRight (planWith (now (jobs .entry)) [] [] (now (times .entry)))) (jobCount (table (now (jobs .entry)) [] [])) ⌝ }
 {
     let n = jobs.len() / 3;
     let mut j = 0;
@@ -53,12 +51,10 @@ fn all_times_right(jobs: &[u32], times: &[u32]) -> bool
 // Whether a plan that is handed in keeps within its bounds: counts and values meet rules 2 to 7, and the modified times, a
 // pair for each job, are right.
 pub fn plan_in_bounds(jobs: &[u32], arcs: &[u32], sections: &[u32], times: &[u32]) -> bool
-    ensures {
-      λ r. ⌜ r ≡ planInBounds (planWith (now (jobs .entry)) (now (arcs .entry)) (now (sections .entry)) (now (times .entry))) ⌝
-    }
+    ensures { λ r. ⌜ r ≡ planInBounds (planWith (now (jobs .entry)) (now (arcs .entry)) (now (sections .entry)) (now (times .entry))) ⌝ }
 {
-    let judged = rows::table_judged(jobs, arcs, sections);
-    if let Judged::Wrong(_) = judged {
+    let values = rows::judge_values(jobs, arcs, sections);
+    if let Judged::Wrong(_) = values {
         return false;
     }
     if times.len() != 2 * (jobs.len() / 3) {

@@ -1,18 +1,15 @@
-use Rattle.plan.specs.Lists.{planWith}
-use Rattle.laws.specs.Rows.{all-not, all-next, all-end}
+use mathlib.Core.Bool.{true}
+use mathlib.Core.List.{[]}
+use mathlib.Core.Path.{sym, _≡_, refl, _∙_}
+use Prim.Native.Nat.{_≤_, _-_}
+use native.Mathlib.Omega.{arith}
+use borrow.Author.Needs.{needs}
 use Rattle.rules.specs.Refusals.{timesRight}
 use Rattle.rules.specs.Rows.{all}
-use Prim.Native.Nat.{_≤_, _-_}
-use mathlib.Core.List.{[]}
-use mathlib.Core.Bool.{true}
-use native.Mathlib.Omega.{arith}
-use mathlib.Core.Path.{sym, _≡_, refl, _∙_}
-use borrow.Author.Needs.{needs}
+use Rattle.laws.specs.Rows.{all-not, all-next, all-end}
+use Rattle.plan.specs.Bounds.{planWith}
 use Rattle.plan.proofs.all_times_right.Statement.{statement}
 use Rattle.plan.proofs.all_times_right.Tie as tie
-use Rattle.plan.proofs.all_times_right.Reads as reads
-use Rattle.plan.proofs.all_times_right.Lts as lts
-use Rattle.plan.proofs.times_right.Reads as times-right-reads
 
 abbrev Inv-loop : tie.InvT-loop
 Inv-loop jobs times n j₀ j = (j ≤ n) × (all (timesRight (planWith jobs [] [] times)) j ≡ true)

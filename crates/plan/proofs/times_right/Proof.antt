@@ -1,11 +1,9 @@
-use Rattle.plan.specs.Stages.{times-no, times-last}
-use native.Mathlib.Omega.{arith}
 use mathlib.Core.Path.{sym}
+use native.Mathlib.Omega.{arith}
 use borrow.Author.Needs.{needs}
+use Rattle.plan.specs.Bounds.{times-no, times-last}
 use Rattle.plan.proofs.times_right.Statement.{statement}
 use Rattle.plan.proofs.times_right.Tie as tie
-use Rattle.plan.proofs.times_right.Reads as reads
-use Rattle.plan.proofs.times_right.Lts as lts
 
 mul-release : tie.Need-mul-release
 mul-release c = search needs
@@ -50,7 +48,7 @@ shared-slice-read-result : tie.Need-shared-slice-read-result
 shared-slice-read-result c = search needs
 
 returns-4 : tie.Need-returns-4
-returns-4 c = times-last _ _ (omega arith) (omega arith) (omega arith)
+returns-4 c = times-last _ _ (omega arith) (omega arith)
 
 pub times-right-spec : {M : Type 1} → statement M
 times-right-spec =
