@@ -74,6 +74,7 @@ pub record Same (jobs executed marks finish : List ℕ) : Type 0 where
 -- a plan and a state that were judged
 pub record Fit (jobs arcs sections times executed marks finish : List ℕ) : Type 0 where
   pub lists : Same jobs executed marks finish
+  pub few-jobs : length executed ≤ 64
   pub pairs : length times ≡ 2 * length executed
   pub arcs-fit : ArcsFit arcs (length executed)
   pub sections-fit : SectionsFit sections (length executed)

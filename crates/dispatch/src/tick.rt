@@ -76,7 +76,7 @@ fn give_tick(jobs: &[u32], arcs: &[u32], tick: u32, executed: &mut [u32], marks:
 pub fn one_tick(jobs: &[u32], arcs: &[u32], sections: &[u32], times: &[u32], tick: u32, executed: &mut [u32], marks: &mut [u32], finish: &mut [u32], silent: bool) -> Found
     requires { ⌜ Fit (now jobs) (now arcs) (now sections) (now times) (now executed) (now marks) (now finish) × (tick < 10000000) ⌝ }
     ensures {
-      λ r. ⌜ Ticked (plan (now (jobs .entry)) (now (arcs .entry)) (now (sections .entry)) (now (times .entry)))
+      λ r. ⌜ Within r (length (now (executed .entry))) × Ticked (plan (now (jobs .entry)) (now (arcs .entry)) (now (sections .entry)) (now (times .entry)))
         (state tick (now (executed .entry)) (now (marks .entry)) (now (finish .entry))) silent
         (asOption r) (state (tick + 1) (now (executed .exit)) (now (marks .exit)) (now (finish .exit))) ⌝
     }

@@ -82,7 +82,7 @@ returns : tie.Need-returns
 returns c =
     let m = c .before .before in
     let e : chosen (P (begin m)) (S (begin m)) ≡ none = sym (choice m) ∙ ap asOption (c .enum-told .given .1) in
-    record { who = choice m; becomes = tick-idle _ _ _ e }
+    (m .choose .ensures .0, record { who = choice m; becomes = tick-idle _ _ _ e })
 
 -- src/tick.rt:76:1
 same-length-2 : tie.Need-same-length-2
@@ -101,7 +101,7 @@ returns-2 : tie.Need-returns-2
 unfolding advance
 returns-2 c =
     let r = c .before .before .before .before .before .before .before .before .before .before .before in
-    record { who = sym (runs r); becomes = c .before .before .before .before .before .before .give-tick .ensures ∙ tick-runs _ _ _ _ (runs r) }
+    (in-table r, record { who = sym (runs r); becomes = c .before .before .before .before .before .before .give-tick .ensures ∙ tick-runs _ _ _ _ (runs r) })
 
 pub one-tick-spec : {M : Type 1} → statement M
 one-tick-spec =
