@@ -1,5 +1,6 @@
 pub mod Lists
 pub mod Choice
 pub mod Marks
+pub mod Ends
 pub mod Judged
 pub mod Promise

@@ -87,3 +87,10 @@ pub record Ticked (p : Plan) (st : State) (silent : Bool) (ran : Option ℕ) (st
 pub within-at : (f : Found) (n j : ℕ) → Within f n → f ≡ At j → j < n
 within-at (At i) n j h e = let q : i ≡ j = cc in omega arith
 within-at Nothing n j h e = let z : _≡_ {A = ℕ} 0 1 = cc in absurd (omega arith)
+
+-- jobs are few, and their releases and costs within bounds
+pub record Bounded (jobs times : List ℕ) : Type 0 where
+  pub few : length jobs / 3 ≤ 64
+  pub pairs : 2 * (length jobs / 3) ≤ length times
+  pub releases : (j : ℕ) → j < length jobs / 3 → getD times (2 * j) 0 ≤ 1000000
+  pub costs : (j : ℕ) → j < length jobs / 3 → getD jobs (3 * j + 1) 0 ≤ 100000

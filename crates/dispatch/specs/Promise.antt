@@ -1,16 +1,26 @@
 -- What the entries promise, each an equation with the rules.
 use mathlib.Core.Path.{_≡_, refl, sym, _∙_, ap}
-use mathlib.Core.Bool.{Bool}
+use mathlib.Core.Bool.{Bool, true, false}
+use mathlib.Core.List.{List, [], _∷_, _++_}
 use mathlib.Core.Option.{Option, none, some}
-use Prim.Native.Nat.{ℕ}
-use Rattle.rules.specs.Table.{Plan, State}
-use Rattle.rules.specs.Refusals.{Fault, faultOf, stepFault}
+use Prim.Native.Nat.{ℕ, _≤_, _<_}
+use native.Mathlib.Omega.{arith}
+use lib.ListN.{length, take, drop, replicate, length-replicate}
+use lib.Seq.{take-at, drop-at}
+use Rattle.rules.specs.Table.{Plan, State, jobCount}
+use Rattle.laws.specs.Tests.{le-says, yes-says}
+use Rattle.laws.specs.Refusals.{AllNone, all-none, demand-none}
+use borrow.Author.Tests.{le-leb, lt-leb}
+use Rattle.rules.specs.Refusals.{Fault, fault, faultOf, firstOf, demand, room, planInBounds, stepFault}
+use Rattle.rules.specs.Run.{start, answered, allEndBy, endState}
 use Rattle.rules.specs.Tick.{chosen, tick}
 use Rattle.rules.specs.declared.Refusal.{Refusal}
 use Rattle.dispatch.specs.Lists.{Ticked}
 use Rattle.dispatch.specs.declared.Ran.{Ran}
 use Rattle.dispatch.specs.declared.Ran.the-variants.{Job, Idle, Refused}
 use Rattle.dispatch.specs.declared.Stepped.{Stepped}
+use Rattle.dispatch.specs.declared.Reached.{Reached}
+use Rattle.dispatch.specs.declared.Reached.the-variants.{Tick}
 use Rattle.dispatch.specs.declared.Judgement.{Judgement}
 use Rattle.dispatch.specs.declared.Judgement.the-variants.{Ready, Wrong}
 
@@ -66,3 +76,168 @@ module _ (p : Plan) (st : State) (silent : Bool) where
 pub step-settled : {p : Plan} {st : State} {silent : Bool} {r r′ : Stepped} {a a′ : State}
     → Steps p st silent r a → Steps p st silent r′ a′ → said (r .ran) a ≡ said (r′ .ran) a′
 step-settled x y = x .is ∙ sym (y .is)
+
+-- ---- start and run
+
+-- Three lent lists.
+pub record Lists : Type 0 where
+  pub executed : List ℕ
+  pub marks : List ℕ
+  pub finish : List ℕ
+
+abbrev pub lists : List ℕ → List ℕ → List ℕ → Lists
+lists e m f = record { executed = e; marks = m; finish = f }
+
+-- "Success writes the needed front of each lent list; the rest keeps its content."
+abbrev pub over : List ℕ → List ℕ → List ℕ
+over front old = front ++ drop (length front) old
+
+abbrev pub holding : State → Lists → Lists
+holding st l = lists (over (st .executed) (l .executed)) (over (st .marks) (l .marks)) (over (st .finish) (l .finish))
+
+-- 12 for the plan, then 11 for room.
+unfoldable pub startFault : Plan → ℕ → ℕ → ℕ → Option Fault
+startFault p executed marks finish =
+    firstOf
+    (demand (planInBounds p) 12
+    ∷ room (jobCount (p .table)) executed
+    ∷ room (jobCount (p .table)) marks
+    ∷ room (jobCount (p .table)) finish
+    ∷ [])
+
+-- What is reached: a refusal, if there is one, the tick, and the lent lists.
+pub record Reach : Type 0 where
+  pub refusal : Option Fault
+  pub tick : ℕ
+  pub lent : Lists
+
+abbrev pub reachFor : State → Lists → Option Fault → Reach
+reachFor st l none = record { refusal = none; tick = st .tick; lent = holding st l }
+reachFor st l (some f) = record { refusal = some f; tick = 0; lent = l }
+
+abbrev pub faultFor : Plan → Lists → Option Fault
+faultFor p l = startFault p (length (l .executed)) (length (l .marks)) (length (l .finish))
+
+-- The code's answer in 01's words.
+abbrev pub told : Reached → Lists → Reach
+told (Tick t) l = record { refusal = none; tick = t; lent = l }
+told (Reached.Refused f) l = record { refusal = some (faultOf f); tick = 0; lent = l }
+
+-- The promise of `start`: the state at tick 0 in the fronts of the lent lists.
+pub record Starts (p : Plan) (l : Lists) (r : Reached) (l′ : Lists) : Type 0 where
+  pub is : told r l′ ≡ reachFor (start p) l (faultFor p l)
+
+-- The promise of `run`: the state in which all have finished, every report answered.
+pub record Runs (p : Plan) (l : Lists) (r : Reached) (l′ : Lists) : Type 0 where
+  pub is : told r l′ ≡ reachFor (endState p) l (faultFor p l)
+
+-- ---- laws for the code: the judgement before a start, each way out
+
+module _ (p : Plan) (a b c : ℕ) where
+  pub start-unfit : planInBounds p ≡ false → some (fault 12 0) ≡ startFault p a b c
+  unfolding startFault
+  start-unfit e = rw e
+
+  module _ (e : planInBounds p ≡ true) where
+    pub short-executed : a < jobCount (p .table) → some (fault 11 0) ≡ startFault p a b c
+    unfolding startFault
+    short-executed l = rw (e, lt-leb (jobCount (p .table)) a l)
+
+    pub short-marks : jobCount (p .table) ≤ a → b < jobCount (p .table) → some (fault 11 0) ≡ startFault p a b c
+    unfolding startFault
+    short-marks h l = rw (e, le-leb (jobCount (p .table)) a h, lt-leb (jobCount (p .table)) b l)
+
+    pub short-finish : jobCount (p .table) ≤ a → jobCount (p .table) ≤ b → c < jobCount (p .table) → some (fault 11 0) ≡ startFault p a b c
+    unfolding startFault
+    short-finish h g l = rw (e, le-leb (jobCount (p .table)) a h, le-leb (jobCount (p .table)) b g, lt-leb (jobCount (p .table)) c l)
+
+    pub start-ready : jobCount (p .table) ≤ a → jobCount (p .table) ≤ b → jobCount (p .table) ≤ c → none ≡ startFault p a b c
+    unfolding startFault
+    start-ready h g l = rw (e, le-leb (jobCount (p .table)) a h, le-leb (jobCount (p .table)) b g, le-leb (jobCount (p .table)) c l)
+
+  -- what is known where it can start
+  pub start-room : startFault p a b c ≡ none
+      → (planInBounds p ≡ true) × (jobCount (p .table) ≤ a) × (jobCount (p .table) ≤ b) × (jobCount (p .table) ≤ c)
+  unfolding startFault
+  start-room e =
+      let h =
+          all-none
+          (demand (planInBounds p) 12 ∷ room (jobCount (p .table)) a ∷ room (jobCount (p .table)) b ∷ room (jobCount (p .table)) c ∷ [])
+          e in
+      (demand-none _ 12 (h .0),
+      yes-says (le-says _ _) (demand-none _ 11 (h .1 .0)),
+      yes-says (le-says _ _) (demand-none _ 11 (h .1 .1 .0)),
+      yes-says (le-says _ _) (demand-none _ 11 (h .1 .1 .1 .0)))
+
+-- ---- laws for the code: start and run, each way out
+
+module _ (p : Plan) (st : State) (l : Lists) where
+  pub reach-refused : (f : Refusal) → faultFor p l ≡ some (faultOf f) → told (Reached.Refused f) l ≡ reachFor st l (faultFor p l)
+  reach-refused f e = rw e
+
+  pub reach-holds : (l′ : Lists) → faultFor p l ≡ none → l′ ≡ holding st l → told (Tick (st .tick)) l′ ≡ reachFor st l (faultFor p l)
+  reach-holds l′ e h = rw (e, h)
+
+zeros-over : (n : ℕ) (old new : List ℕ) → new ≡ replicate n 0 ++ drop n old → new ≡ over (replicate n 0) old
+zeros-over n old new e = rw (length-replicate {A = ℕ} n 0) e
+
+pub start-holds : (p : Plan) (e m f e′ m′ f′ : List ℕ)
+    → e′ ≡ replicate (jobCount (p .table)) 0 ++ drop (jobCount (p .table)) e
+    → m′ ≡ replicate (jobCount (p .table)) 0 ++ drop (jobCount (p .table)) m
+    → f′ ≡ replicate (jobCount (p .table)) 0 ++ drop (jobCount (p .table)) f
+    → lists e′ m′ f′ ≡ holding (start p) (lists e m f)
+unfolding start
+start-holds p e m f e′ m′ f′ x y z =
+    let n : ℕ = jobCount (p .table) in
+    rw (zeros-over n e e′ x, zeros-over n m m′ y, zeros-over n f f′ z)
+
+-- ---- what a reached state says
+
+pub refused-kept : (st : State) (l l′ : Lists) (o : Option Fault) (f : Refusal) → told (Reached.Refused f) l′ ≡ reachFor st l o → (o ≡ some (faultOf f)) × (l′ ≡ l)
+refused-kept st l l′ none f e = let z : _≡_ {A = ℕ} 0 1 = cc (ap (λ (r : Reach). r .refusal) e) in absurd (omega arith)
+refused-kept st l l′ (some g) f e = (sym (ap (λ (r : Reach). r .refusal) e), ap (λ (r : Reach). r .lent) e)
+
+pub reached-holds : (st : State) (l l′ : Lists) (o : Option Fault) (t : ℕ) → told (Tick t) l′ ≡ reachFor st l o → (o ≡ none) × (l′ ≡ holding st l)
+reached-holds st l l′ none t e = (refl, ap (λ (r : Reach). r .lent) e)
+reached-holds st l l′ (some g) t e = let z : _≡_ {A = ℕ} 0 1 = cc (ap (λ (r : Reach). r .refusal) e) in absurd (omega arith)
+
+-- ---- the end of a run, from its start in the fronts
+
+front-zeros : (n : ℕ) (old new : List ℕ) → new ≡ over (replicate n 0) old → (take n new ≡ replicate n 0) × (drop n new ≡ drop n old)
+front-zeros n old new e =
+    let k : length (replicate {A = ℕ} n 0) ≡ n = length-replicate {A = ℕ} n 0 in
+    (rw e (take-at (replicate n 0) (drop (length (replicate {A = ℕ} n 0)) old) n k),
+    rw e (drop-at (replicate n 0) (drop (length (replicate {A = ℕ} n 0)) old) n k ∙ ap (λ i. drop i old) k))
+
+module _ (p : Plan) (l l₁ : Lists) (end : ℕ) (e m f : List ℕ)
+    (begun : l₁ ≡ holding (start p) l)
+    (ended : record { tick = end; executed = e; marks = m; finish = f }
+        ≡ answered p (allEndBy p) (record { tick = 0; executed = take (jobCount (p .table)) (l₁ .executed); marks = take (jobCount (p .table)) (l₁ .marks); finish = take (jobCount (p .table)) (l₁ .finish) })) where
+  zeros : (old new : List ℕ) → new ≡ over (replicate (jobCount (p .table)) 0) old
+      → (take (jobCount (p .table)) new ≡ replicate (jobCount (p .table)) 0) × (drop (jobCount (p .table)) new ≡ drop (jobCount (p .table)) old)
+  zeros old new = front-zeros (jobCount (p .table)) old new
+
+  ends : record { tick = end; executed = e; marks = m; finish = f } ≡ endState p
+  unfolding endState start
+  ends =
+      ended
+      ∙ rw
+      (zeros (l .executed) (l₁ .executed) (ap (λ (x : Lists). x .executed) begun) .0,
+      zeros (l .marks) (l₁ .marks) (ap (λ (x : Lists). x .marks) begun) .0,
+      zeros (l .finish) (l₁ .finish) (ap (λ (x : Lists). x .finish) begun) .0)
+      refl
+
+  pub run-holds : length e ≡ jobCount (p .table) → length m ≡ jobCount (p .table) → length f ≡ jobCount (p .table)
+      → told (Tick end) (lists (e ++ drop (jobCount (p .table)) (l₁ .executed)) (m ++ drop (jobCount (p .table)) (l₁ .marks)) (f ++ drop (jobCount (p .table)) (l₁ .finish)))
+      ≡ reachFor (endState p) l none
+  unfolding start
+  run-holds x y z =
+      rw
+      (← ends,
+      x,
+      y,
+      z,
+      zeros (l .executed) (l₁ .executed) (ap (λ (w : Lists). w .executed) begun) .1,
+      zeros (l .marks) (l₁ .marks) (ap (λ (w : Lists). w .marks) begun) .1,
+      zeros (l .finish) (l₁ .finish) (ap (λ (w : Lists). w .finish) begun) .1)
+      refl

@@ -1,12 +1,15 @@
 // One tick, a whole run, lateness.
 mod choice;
+mod ends;
 mod tick;
 use crate::choice::Found;
 use rules::Refusal;
 ghost use mathlib.Core.Path.{_≡_};
+ghost use Prim.Native.Nat.{_≤_};
 ghost use Rattle.rules.specs.Refusals.{stepFault};
-ghost use Rattle.dispatch.specs.Lists.{plan, state};
-ghost use Rattle.dispatch.specs.Promise.{asFault, Steps};
+ghost use Rattle.rules.specs.Run.{answered, allEndBy};
+ghost use Rattle.dispatch.specs.Lists.{plan, timed, state, Fit, Bounded};
+ghost use Rattle.dispatch.specs.Promise.{asFault, Steps, lists, startFault, Starts, Runs};
 
 // What a step did: a job ran, the processor was idle, or the step was refused.
 pub enum Ran {
@@ -85,4 +88,90 @@ pub fn step(
         Found::Nothing => Stepped { tick: tick + 1, ran: Ran::Idle },
         Found::At(job) => Stepped { tick: tick + 1, ran: Ran::Job(job as u32) },
     }
+}
+
+// The state that the lent lists now hold, by its tick, or why they were not written.
+pub enum Reached {
+    Tick(u32),
+    Refused(Refusal),
+}
+
+// 12 for a plan out of bounds, then 11 where a lent list is shorter than the jobs.
+fn judge_start(jobs: &[u32], arcs: &[u32], sections: &[u32], times: &[u32], executed: usize, marks: usize, finish: usize) -> Judgement
+    ensures {
+      λ r. ⌜ asFault r ≡ startFault (plan (now (jobs .entry)) (now (arcs .entry)) (now (sections .entry)) (now (times .entry))) executed marks finish ⌝
+    }
+{
+    if !plan::plan_in_bounds(jobs, arcs, sections, times) {
+        return Judgement::Wrong(Refusal::Bounds);
+    }
+    let n = jobs.len() / 3;
+    if executed < n {
+        return Judgement::Wrong(Refusal::Room);
+    }
+    if marks < n {
+        return Judgement::Wrong(Refusal::Room);
+    }
+    if finish < n {
+        return Judgement::Wrong(Refusal::Room);
+    }
+    Judgement::Ready
+}
+
+// The state at tick 0 of a plan, into the fronts of the lent lists.
+pub fn start(jobs: &[u32], arcs: &[u32], sections: &[u32], times: &[u32], executed: &mut [u32], marks: &mut [u32], finish: &mut [u32]) -> Reached
+    ensures {
+      λ r. ⌜ Starts (plan (now (jobs .entry)) (now (arcs .entry)) (now (sections .entry)) (now (times .entry)))
+        (lists (now (executed .entry)) (now (marks .entry)) (now (finish .entry))) r
+        (lists (now (executed .exit)) (now (marks .exit)) (now (finish .exit))) ⌝
+    }
+{
+    let judged = judge_start(jobs, arcs, sections, times, executed.len(), marks.len(), finish.len());
+    if let Judgement::Wrong(refusal) = judged {
+        return Reached::Refused(refusal);
+    }
+    let n = jobs.len() / 3;
+    ends::clear(executed, n);
+    ends::clear(marks, n);
+    ends::clear(finish, n);
+    Reached::Tick(0)
+}
+
+// Runs a judged plan from its start to its end, every report answered: the tick of the end state.
+fn run_on(jobs: &[u32], arcs: &[u32], sections: &[u32], times: &[u32], executed: &mut [u32], marks: &mut [u32], finish: &mut [u32]) -> u32
+    requires { ⌜ Fit (now jobs) (now arcs) (now sections) (now times) (now executed) (now marks) (now finish) × Bounded (now jobs) (now times) ⌝ }
+    ensures {
+      λ r. ⌜ state r (now (executed .exit)) (now (marks .exit)) (now (finish .exit))
+        ≡ answered (plan (now (jobs .entry)) (now (arcs .entry)) (now (sections .entry)) (now (times .entry)))
+        (allEndBy (timed (now (jobs .entry)) (now (times .entry))))
+        (state 0 (now (executed .entry)) (now (marks .entry)) (now (finish .entry))) ⌝
+    }
+{
+    let end = ends::all_end_by(jobs, times);
+    let mut tick = 0;
+    while tick < end {
+        if tick::all_finished(jobs, executed) {
+            return tick;
+        }
+        tick::one_tick(jobs, arcs, sections, times, tick, executed, marks, finish, false);
+        tick += 1;
+    }
+    tick
+}
+
+// Runs a plan from tick 0 to its end, every report answered: the end state, into the fronts of the lent lists.
+pub fn run(jobs: &[u32], arcs: &[u32], sections: &[u32], times: &[u32], executed: &mut [u32], marks: &mut [u32], finish: &mut [u32]) -> Reached
+    ensures {
+      λ r. ⌜ Runs (plan (now (jobs .entry)) (now (arcs .entry)) (now (sections .entry)) (now (times .entry)))
+        (lists (now (executed .entry)) (now (marks .entry)) (now (finish .entry))) r
+        (lists (now (executed .exit)) (now (marks .exit)) (now (finish .exit))) ⌝
+    }
+{
+    let begun = start(jobs, arcs, sections, times, executed, marks, finish);
+    if let Reached::Refused(refusal) = begun {
+        return Reached::Refused(refusal);
+    }
+    let n = jobs.len() / 3;
+    let end = run_on(jobs, arcs, sections, times, &mut executed[..n], &mut marks[..n], &mut finish[..n]);
+    Reached::Tick(end)
 }

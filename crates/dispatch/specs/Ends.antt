@@ -1,0 +1,116 @@
+-- Laws for the start and the end of a run.
+use mathlib.Core.Path.{_≡_, refl, sym, _∙_, ap}
+use mathlib.Core.Bool.{Bool, true, false, cond}
+use mathlib.Core.List.{List, [], _∷_, _++_}
+use Prim.Native.Nat.{ℕ, zero, suc, _+_, _*_, _/_, _-_, _≤_, _<_, max}
+use native.Mathlib.Numerals.{add-one}
+use native.Mathlib.Omega.{arith}
+use lib.Dec.{ltb}
+use lib.IntN.{ℤ, pos, negsuc, subℕ, _-ℤ_}
+use lib.Signed.{mag}
+use lib.ListN.{length, getD, set, take, drop, replicate, length-set, take-append-drop}
+use lib.Seq.{take-suc-set, drop-set-lt, drop-drop}
+use borrow.Author.Tests.{le-ltb}
+use Rattle.rules.specs.Rows.{largest}
+use Rattle.rules.specs.Table.{Plan, State}
+use Rattle.rules.specs.Refusals.{allFinished}
+use Rattle.rules.specs.Tick.{tick}
+use Rattle.rules.specs.Run.{answered}
+use Rattle.dispatch.specs.Lists.{Fit}
+
+-- ---- a front of zeros
+
+zeros-more : (n : ℕ) → _++_ {A = ℕ} (replicate n 0) (0 ∷ []) ≡ replicate (suc n) 0
+zeros-more zero = refl
+zeros-more (suc n) = ap (λ l. 0 ∷ l) (zeros-more n)
+
+-- the first i places of the list are 0, and the rest is as it was
+pub record Cleared (before : List ℕ) (i : ℕ) (list : List ℕ) : Type 0 where
+  pub same : length list ≡ length before
+  pub front : take i list ≡ replicate i 0
+  pub rest : drop i list ≡ drop i before
+
+pub clear-start : (l : List ℕ) → Cleared l 0 l
+clear-start l = record { same = refl; front = refl; rest = refl }
+
+-- one element more off both
+drop-more : (l m : List ℕ) (i : ℕ) → drop i l ≡ drop i m → drop (suc i) l ≡ drop (suc i) m
+drop-more l m i e =
+    let n : i + 1 ≡ suc i = omega arith in
+    rw n at (sym (drop-drop 1 i l) ∙ ap (drop 1) e ∙ drop-drop 1 i m)
+
+pub clear-more : {l m : List ℕ} {i : ℕ} → Cleared l i m → i < length m → Cleared l (i + 1) (set m i 0)
+clear-more {l} {m} {i} h k =
+    record
+    { same = rw length-set (h .same)
+    ; front = rw (add-one i, take-suc-set m i 0 k, h .front) (zeros-more i)
+    ; rest =
+        rw (add-one i, drop-set-lt (suc i) m i 0 (omega arith)) (drop-more m l i (h .rest))
+    }
+
+pub clear-end : {l m : List ℕ} {i : ℕ} → Cleared l i m → m ≡ replicate i 0 ++ drop i l
+clear-end {l} {m} {i} h = sym (take-append-drop i m) ∙ rw (h .front, h .rest)
+
+-- ---- the largest
+
+pub largest-more : (f : ℕ → ℕ) (b n : ℕ) → largest (λ j. true) f b (n + 1) ≡ max (largest (λ j. true) f b n) (f n)
+unfolding largest
+largest-more f b n = rw add-one
+
+-- ---- signed differences
+
+pub minus : (a b : ℕ) → pos a -ℤ pos b ≡ subℕ a b
+minus a zero = rw (le-ltb a 0 (omega arith)) (ap pos (omega arith))
+minus a (suc b) = refl
+
+pub difference-small : (m a b : ℕ) → a < m → b < m → mag (subℕ a b) < m
+difference-small m a b h g = go (ltb a b)
+  where
+    go : (c : Bool) → mag (cond c (negsuc (b - suc a)) (pos (a - b))) < m
+    go true = omega arith
+    go false = omega arith
+
+-- ---- a run, tick by tick
+
+-- lists of the same lengths fit as well
+pub fit-same : {jobs arcs sections times e m f e′ m′ f′ : List ℕ} → Fit jobs arcs sections times e m f
+    → length e′ ≡ length e → length m′ ≡ length m → length f′ ≡ length f → Fit jobs arcs sections times e′ m′ f′
+fit-same h x y z =
+    record
+    { lists =
+        record
+        { by-job = omega (arith, h .lists .by-job)
+        ; marked = omega (arith, h .lists .marked)
+        ; finished = omega (arith, h .lists .finished)
+        }
+    ; few-jobs = omega (arith, h .few-jobs)
+    ; pairs = omega (arith, h .pairs)
+    ; arcs-fit = rw x (h .arcs-fit)
+    ; sections-fit = rw x (h .sections-fit)
+    }
+
+-- what is left of a run to the tick `end` comes to what the whole run comes to, r
+pub record Going (p : Plan) (st : State) (end : ℕ) (r : State) : Type 0 where
+  pub soon : st .tick ≤ end
+  pub left : answered p (end - st .tick) st ≡ r
+
+module _ {p : Plan} {st : State} {end : ℕ} {r : State} (g : Going p st end r) where
+  pub run-over : end ≤ st .tick → st ≡ r
+  unfolding answered
+  run-over l = let z : end - st .tick ≡ 0 = omega arith in rw z at (g .left)
+
+  pub run-stops : st .tick < end → allFinished p st ≡ true → st ≡ r
+  unfolding answered
+  run-stops l e =
+      let z : end - st .tick ≡ suc (end - suc (st .tick)) = omega arith in
+      rw (z, e) at (g .left)
+
+  pub run-goes : (st′ : State) → st′ .tick ≡ st .tick + 1 → st .tick < end → allFinished p st ≡ false → st′ ≡ tick p st false → Going p st′ end r
+  unfolding answered
+  run-goes st′ n l e q =
+      let z : end - st .tick ≡ suc (end - suc (st .tick)) = omega arith in
+      let w : end - st′ .tick ≡ end - suc (st .tick) = omega arith in
+      record { soon = omega arith; left = rw (w, q) (rw (z, e) at (g .left)) }
+
+pub run-begins : (p : Plan) (st : State) (end : ℕ) → st .tick ≡ 0 → Going p st end (answered p end st)
+run-begins p st end e = let z : end - st .tick ≡ end = omega arith in record { soon = omega arith; left = rw z }
