@@ -34,9 +34,9 @@ module _ (p : Plan) (st : State) where
   pub held-skip : {m : ℕ} {u : List ℕ} → HeldTo p st m u → (holds p st m && pending p st (owner (p .table) m)) ≡ false → HeldTo p st (m + 1) u
   unfolding heldOn
   held-skip {m} {u} h e =
-      record
-      { all-listed = h .all-listed
-      ; are = λ q l. rw (sum-more, e, and-false (eqb (resource (p .table) m) q)) (omega (arith, h .are q l))
+      record {
+        all-listed = h .all-listed;
+        are = λ q l. rw (sum-more, e, and-false (eqb (resource (p .table) m) q)) (omega (arith, h .are q l));
       }
 
   -- section m is held, and its resource counts one more
@@ -45,16 +45,17 @@ module _ (p : Plan) (st : State) where
       → HeldTo p st (m + 1) (set u (resource (p .table) m) (getD u (resource (p .table) m) 0 + 1))
   unfolding heldOn
   held-more {m} {u} h e l =
-      record
-      { all-listed = rw length-set (h .all-listed)
-      ; are = λ q k.
-          elim (ℕ-discrete q (resource (p .table) m))
-          [ yes z ↦
-              rw (sum-more, e, z, eq-eqb (resource (p .table) m) (resource (p .table) m) refl, getD-set-same u (resource (p .table) m) (getD u (resource (p .table) m) 0 + 1) 0 (omega (arith, h .all-listed)))
-              (omega (arith, h .are (resource (p .table) m) l))
-          | no z ↦
-              rw (sum-more, e, ne-eqb (resource (p .table) m) q (λ w. z (sym w)), getD-set-other u (resource (p .table) m) q (getD u (resource (p .table) m) 0 + 1) 0 z)
-              (omega (arith, h .are q k)) ]
+      record {
+        all-listed = rw length-set (h .all-listed);
+        are = λ q k.
+            elim (ℕ-discrete q (resource (p .table) m)) [
+              | yes z ↦
+                  rw (sum-more, e, z, eq-eqb (resource (p .table) m) (resource (p .table) m) refl, getD-set-same u (resource (p .table) m) (getD u (resource (p .table) m) 0 + 1) 0 (omega (arith, h .all-listed)))
+                  (omega (arith, h .are (resource (p .table) m) l))
+              | no z ↦
+                  rw (sum-more, e, ne-eqb (resource (p .table) m) q (λ w. z (sym w)), getD-set-other u (resource (p .table) m) q (getD u (resource (p .table) m) 0 + 1) 0 z)
+                  (omega (arith, h .are q k))
+            ];
       }
 
   -- no more units than sections

@@ -41,11 +41,11 @@ drop-more l m i e =
 
 pub clear-more : {l m : List ℕ} {i : ℕ} → Cleared l i m → i < length m → Cleared l (i + 1) (set m i 0)
 clear-more {l} {m} {i} h k =
-    record
-    { same = rw length-set (h .same)
-    ; front = rw (add-one i, take-suc-set m i 0 k, h .front) (zeros-more i)
-    ; rest =
-        rw (add-one i, drop-set-lt (suc i) m i 0 (omega arith)) (drop-more m l i (h .rest))
+    record {
+      same = rw length-set (h .same);
+      front = rw (add-one i, take-suc-set m i 0 k, h .front) (zeros-more i);
+      rest =
+          rw (add-one i, drop-set-lt (suc i) m i 0 (omega arith)) (drop-more m l i (h .rest));
     }
 
 pub clear-end : {l m : List ℕ} {i : ℕ} → Cleared l i m → m ≡ replicate i 0 ++ drop i l
@@ -76,17 +76,17 @@ difference-small m a b h g = go (ltb a b)
 pub fit-same : {jobs arcs sections times e m f e′ m′ f′ : List ℕ} → Fit jobs arcs sections times e m f
     → length e′ ≡ length e → length m′ ≡ length m → length f′ ≡ length f → Fit jobs arcs sections times e′ m′ f′
 fit-same h x y z =
-    record
-    { lists =
-        record
-        { by-job = omega (arith, h .lists .by-job)
-        ; marked = omega (arith, h .lists .marked)
-        ; finished = omega (arith, h .lists .finished)
-        }
-    ; few-jobs = omega (arith, h .few-jobs)
-    ; pairs = omega (arith, h .pairs)
-    ; arcs-fit = rw x (h .arcs-fit)
-    ; sections-fit = rw x (h .sections-fit)
+    record {
+      lists =
+          record {
+            by-job = omega (arith, h .lists .by-job);
+            marked = omega (arith, h .lists .marked);
+            finished = omega (arith, h .lists .finished);
+          };
+      few-jobs = omega (arith, h .few-jobs);
+      pairs = omega (arith, h .pairs);
+      arcs-fit = rw x (h .arcs-fit);
+      sections-fit = rw x (h .sections-fit);
     }
 
 -- what is left of a run to the tick `end` comes to what the whole run comes to, r

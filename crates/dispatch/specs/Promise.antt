@@ -1,26 +1,45 @@
 -- What the entries promise, each an equation with the rules.
 use mathlib.Core.Path.{_≡_, refl, sym, _∙_, ap}
-use mathlib.Core.Bool.{Bool, true, false}
+use mathlib.Core.Bool.{Bool, true, false, cond, _&&_}
 use mathlib.Core.List.{List, [], _∷_, _++_}
 use mathlib.Core.Option.{Option, none, some}
-use Prim.Native.Nat.{ℕ, _≤_, _<_}
+use Prim.Native.Nat.{ℕ, _+_, _*_, _/_, _≤_, _<_}
 use native.Mathlib.Omega.{arith}
 use lib.ListN.{length, take, drop, replicate, length-replicate}
 use lib.Seq.{take-at, drop-at}
-use Rattle.rules.specs.Table.{Plan, State, jobCount}
+use Rattle.rules.specs.Table.{Plan, State, jobCount, cost, deadline, executed, finish}
 use Rattle.laws.specs.Tests.{le-says, yes-says}
 use Rattle.laws.specs.Refusals.{AllNone, all-none, demand-none}
-use borrow.Author.Tests.{le-leb, lt-leb}
-use Rattle.rules.specs.Refusals.{Fault, fault, faultOf, firstOf, demand, room, planInBounds, stepFault}
-use Rattle.rules.specs.Run.{start, answered, allEndBy, endState}
+use borrow.Author.Tests.{le-leb, lt-leb, le-ltb, lt-ltb, eq-eqb, ne-eqb}
+use lib.Dec.{ltb}
+use lib.IntN.{ℤ, subℕ}
+use Rattle.rules.specs.Refusals.{
+  Fault,
+  fault,
+  faultOf,
+  Outcome,
+  refused,
+  gives,
+  firstOf,
+  unless,
+  demand,
+  room,
+  planInBounds,
+  finished,
+  stepFault,
+}
+use Rattle.rules.specs.Run.{start, answered, allEndBy, endState, lateness}
 use Rattle.rules.specs.Tick.{chosen, tick}
 use Rattle.rules.specs.declared.Refusal.{Refusal}
 use Rattle.dispatch.specs.Lists.{Ticked}
+use Rattle.dispatch.specs.Judged.{inBounds}
 use Rattle.dispatch.specs.declared.Ran.{Ran}
 use Rattle.dispatch.specs.declared.Ran.the-variants.{Job, Idle, Refused}
 use Rattle.dispatch.specs.declared.Stepped.{Stepped}
 use Rattle.dispatch.specs.declared.Reached.{Reached}
 use Rattle.dispatch.specs.declared.Reached.the-variants.{Tick}
+use Rattle.dispatch.specs.declared.Late.{Late}
+use Rattle.dispatch.specs.declared.Late.the-variants.{By, Unfinished}
 use Rattle.dispatch.specs.declared.Judgement.{Judgement}
 use Rattle.dispatch.specs.declared.Judgement.the-variants.{Ready, Wrong}
 
@@ -161,13 +180,14 @@ module _ (p : Plan) (a b c : ℕ) where
   unfolding startFault
   start-room e =
       let h =
-          all-none
-          (demand (planInBounds p) 12 ∷ room (jobCount (p .table)) a ∷ room (jobCount (p .table)) b ∷ room (jobCount (p .table)) c ∷ [])
-          e in
-      (demand-none _ 12 (h .0),
-      yes-says (le-says _ _) (demand-none _ 11 (h .1 .0)),
-      yes-says (le-says _ _) (demand-none _ 11 (h .1 .1 .0)),
-      yes-says (le-says _ _) (demand-none _ 11 (h .1 .1 .1 .0)))
+      all-none
+      (demand (planInBounds p) 12 ∷ room (jobCount (p .table)) a ∷ room (jobCount (p .table)) b ∷ room (jobCount (p .table)) c ∷ [])
+      e in (
+        demand-none _ 12 (h .0),
+        yes-says (le-says _ _) (demand-none _ 11 (h .1 .0)),
+        yes-says (le-says _ _) (demand-none _ 11 (h .1 .1 .0)),
+        yes-says (le-says _ _) (demand-none _ 11 (h .1 .1 .1 .0)),
+      )
 
 -- ---- laws for the code: start and run, each way out
 
@@ -205,14 +225,15 @@ reached-holds st l l′ (some g) t e = let z : _≡_ {A = ℕ} 0 1 = cc (ap (λ 
 
 front-zeros : (n : ℕ) (old new : List ℕ) → new ≡ over (replicate n 0) old → (take n new ≡ replicate n 0) × (drop n new ≡ drop n old)
 front-zeros n old new e =
-    let k : length (replicate {A = ℕ} n 0) ≡ n = length-replicate {A = ℕ} n 0 in
-    (rw e (take-at (replicate n 0) (drop (length (replicate {A = ℕ} n 0)) old) n k),
-    rw e (drop-at (replicate n 0) (drop (length (replicate {A = ℕ} n 0)) old) n k ∙ ap (λ i. drop i old) k))
+    let k : length (replicate {A = ℕ} n 0) ≡ n = length-replicate {A = ℕ} n 0 in (
+      rw e (take-at (replicate n 0) (drop (length (replicate {A = ℕ} n 0)) old) n k),
+      rw e (drop-at (replicate n 0) (drop (length (replicate {A = ℕ} n 0)) old) n k ∙ ap (λ i. drop i old) k),
+    )
 
 module _ (p : Plan) (l l₁ : Lists) (end : ℕ) (e m f : List ℕ)
     (begun : l₁ ≡ holding (start p) l)
     (ended : record { tick = end; executed = e; marks = m; finish = f }
-        ≡ answered p (allEndBy p) (record { tick = 0; executed = take (jobCount (p .table)) (l₁ .executed); marks = take (jobCount (p .table)) (l₁ .marks); finish = take (jobCount (p .table)) (l₁ .finish) })) where
+    ≡ answered p (allEndBy p) (record { tick = 0; executed = take (jobCount (p .table)) (l₁ .executed); marks = take (jobCount (p .table)) (l₁ .marks); finish = take (jobCount (p .table)) (l₁ .finish) })) where
   zeros : (old new : List ℕ) → new ≡ over (replicate (jobCount (p .table)) 0) old
       → (take (jobCount (p .table)) new ≡ replicate (jobCount (p .table)) 0) × (drop (jobCount (p .table)) new ≡ drop (jobCount (p .table)) old)
   zeros old new = front-zeros (jobCount (p .table)) old new
@@ -221,10 +242,11 @@ module _ (p : Plan) (l l₁ : Lists) (end : ℕ) (e m f : List ℕ)
   unfolding endState start
   ends =
       ended
-      ∙ rw
-      (zeros (l .executed) (l₁ .executed) (ap (λ (x : Lists). x .executed) begun) .0,
-      zeros (l .marks) (l₁ .marks) (ap (λ (x : Lists). x .marks) begun) .0,
-      zeros (l .finish) (l₁ .finish) (ap (λ (x : Lists). x .finish) begun) .0)
+      ∙ rw (
+        zeros (l .executed) (l₁ .executed) (ap (λ (x : Lists). x .executed) begun) .0,
+        zeros (l .marks) (l₁ .marks) (ap (λ (x : Lists). x .marks) begun) .0,
+        zeros (l .finish) (l₁ .finish) (ap (λ (x : Lists). x .finish) begun) .0,
+      )
       refl
 
   pub run-holds : length e ≡ jobCount (p .table) → length m ≡ jobCount (p .table) → length f ≡ jobCount (p .table)
@@ -232,12 +254,58 @@ module _ (p : Plan) (l l₁ : Lists) (end : ℕ) (e m f : List ℕ)
       ≡ reachFor (endState p) l none
   unfolding start
   run-holds x y z =
-      rw
-      (← ends,
-      x,
-      y,
-      z,
-      zeros (l .executed) (l₁ .executed) (ap (λ (w : Lists). w .executed) begun) .1,
-      zeros (l .marks) (l₁ .marks) (ap (λ (w : Lists). w .marks) begun) .1,
-      zeros (l .finish) (l₁ .finish) (ap (λ (w : Lists). w .finish) begun) .1)
+      rw (
+        ← ends,
+        x,
+        y,
+        z,
+        zeros (l .executed) (l₁ .executed) (ap (λ (w : Lists). w .executed) begun) .1,
+        zeros (l .marks) (l₁ .marks) (ap (λ (w : Lists). w .marks) begun) .1,
+        zeros (l .finish) (l₁ .finish) (ap (λ (w : Lists). w .finish) begun) .1,
+      )
       refl
+
+-- ---- lateness
+
+-- "Lateness, of a finished job only": else there is none.
+unfoldable pub latenessIn : Plan → State → ℕ → Option ℤ
+unfolding lateness
+latenessIn p st j = cond (finished p st j) (some (lateness p st j)) none
+
+-- 12 for a plan or a state out of bounds, or a job not in the table.
+unfoldable pub latenessAsked : Plan → State → ℕ → Outcome (Option ℤ)
+latenessAsked p st j = unless (demand (inBounds p st && ltb j (jobCount (p .table))) 12) (latenessIn p st j)
+
+-- The code's answer in 01's words.
+abbrev pub asked : Late → Outcome (Option ℤ)
+asked (By n) = gives (some n)
+asked Unfinished = gives none
+asked (Late.Refused f) = refused (faultOf f)
+
+-- The promise of `lateness`.
+pub record Lateness (p : Plan) (st : State) (j : ℕ) (r : Late) : Type 0 where
+  pub is : asked r ≡ latenessAsked p st j
+
+-- each way out
+module _ (p : Plan) (st : State) (j : ℕ) where
+  pub late-unfit : inBounds p st ≡ false → refused (fault 12 0) ≡ latenessAsked p st j
+  unfolding latenessAsked
+  late-unfit a = rw a
+
+  module _ (a : inBounds p st ≡ true) where
+    pub late-nobody : jobCount (p .table) ≤ j → refused (fault 12 0) ≡ latenessAsked p st j
+    unfolding latenessAsked
+    late-nobody l = rw (a, le-ltb j (jobCount (p .table)) l)
+
+    pub late-known : j < jobCount (p .table) → gives (latenessIn p st j) ≡ latenessAsked p st j
+    unfolding latenessAsked
+    late-known l = rw (a, lt-ltb j (jobCount (p .table)) l)
+
+module _ (p : Plan) (st : State) (j : ℕ) where
+  pub not-finished : (executed st j ≡ cost (p .table) j → ⊥) → none ≡ latenessIn p st j
+  unfolding latenessIn
+  not-finished n = rw (ne-eqb _ _ n)
+
+  pub ended-by : (z : ℤ) → executed st j ≡ cost (p .table) j → z ≡ subℕ (finish st j) (deadline (p .table) j) → some z ≡ latenessIn p st j
+  unfolding latenessIn
+  ended-by z n q = rw (eq-eqb _ _ n, q)

@@ -82,14 +82,26 @@ fn is_candidate(release: Instant, tick: u32, executed: u32, cost: u32, started_o
 }
 
 // The turn of the choice: job j against the best so far.
-fn turn(jobs: &[u32], times: &[u32], tick: u32, executed: &[u32], started_only: bool, j: usize, best: Found) -> Found
+fn turn(
+    jobs: &[u32],
+    times: &[u32],
+    tick: u32,
+    executed: &[u32],
+    started_only: bool,
+    j: usize,
+    best: Found,
+) -> Found
     requires { ⌜ Sized (now jobs) (now times) (now executed) × (j < length (now executed)) × Within best (length (now executed)) ⌝ }
-    ensures {
-      λ r. ⌜ Within r (length (now (executed .entry)))
-        × (asOption r ≡ better (comesBefore (timed (now (jobs .entry)) (now (times .entry)))) (candidate «started_only» (timed (now (jobs .entry)) (now (times .entry))) (at tick (now (executed .entry))) j) j (asOption best)) ⌝
-    }
+    ensures { λ r. ⌜ Within r (length (now (executed .entry)))
+        × (asOption r ≡ better (comesBefore (timed (now (jobs .entry)) (now (times .entry)))) (candidate «started_only» (timed (now (jobs .entry)) (now (times .entry))) (at tick (now (executed .entry))) j) j (asOption best)) ⌝ }
 {
-    if !is_candidate(release_of(times, j), tick, executed[j], jobs[3 * j + 1], started_only) {
+    if !is_candidate(
+        release_of(times, j),
+        tick,
+        executed[j],
+        jobs[3 * j + 1],
+        started_only,
+    ) {
         return best;
     }
     match best {
@@ -105,12 +117,16 @@ fn turn(jobs: &[u32], times: &[u32], tick: u32, executed: &[u32], started_only: 
 }
 
 // The first pending job in the order, or the first started one of them.
-pub fn first_job(jobs: &[u32], times: &[u32], tick: u32, executed: &[u32], started_only: bool) -> Found
+pub fn first_job(
+    jobs: &[u32],
+    times: &[u32],
+    tick: u32,
+    executed: &[u32],
+    started_only: bool,
+) -> Found
     requires { ⌜ Sized (now jobs) (now times) (now executed) ⌝ }
-    ensures {
-      λ r. ⌜ Within r (length (now (executed .entry)))
-        × (asOption r ≡ first (comesBefore (timed (now (jobs .entry)) (now (times .entry)))) (candidate «started_only» (timed (now (jobs .entry)) (now (times .entry))) (at tick (now (executed .entry)))) (length (now (executed .entry)))) ⌝
-    }
+    ensures { λ r. ⌜ Within r (length (now (executed .entry)))
+        × (asOption r ≡ first (comesBefore (timed (now (jobs .entry)) (now (times .entry)))) (candidate «started_only» (timed (now (jobs .entry)) (now (times .entry))) (at tick (now (executed .entry)))) (length (now (executed .entry)))) ⌝ }
 {
     let n = executed.len();
     let mut best = Found::Nothing;
@@ -131,12 +147,17 @@ fn entry(sections: &[u32], k: usize) -> usize
 }
 
 // Whether a pending job holds section s.
-fn is_held(jobs: &[u32], sections: &[u32], times: &[u32], tick: u32, executed: &[u32], s: usize) -> bool
+fn is_held(
+    jobs: &[u32],
+    sections: &[u32],
+    times: &[u32],
+    tick: u32,
+    executed: &[u32],
+    s: usize,
+) -> bool
     requires { ⌜ Sized (now jobs) (now times) (now executed) × SectionsFit (now sections) (length (now executed)) × (s < length (now sections) / 4) ⌝ }
-    ensures {
-      λ r. ⌜ r ≡ (holds (plan (now (jobs .entry)) [] (now (sections .entry)) (now (times .entry))) (at tick (now (executed .entry))) s
-        && pending (timed (now (jobs .entry)) (now (times .entry))) (at tick (now (executed .entry))) (getD (now (sections .entry)) (4 * s) 0)) ⌝
-    }
+    ensures { λ r. ⌜ r ≡ (holds (plan (now (jobs .entry)) [] (now (sections .entry)) (now (times .entry))) (at tick (now (executed .entry))) s
+        && pending (timed (now (jobs .entry)) (now (times .entry))) (at tick (now (executed .entry))) (getD (now (sections .entry)) (4 * s) 0)) ⌝ }
 {
     let job = entry(sections, 4 * s);
     let done = executed[job];
@@ -150,12 +171,16 @@ fn is_held(jobs: &[u32], sections: &[u32], times: &[u32], tick: u32, executed: &
 }
 
 // How many units of each resource pending jobs hold.
-fn held_units(jobs: &[u32], sections: &[u32], times: &[u32], tick: u32, executed: &[u32]) -> [u32; 16]
+fn held_units(
+    jobs: &[u32],
+    sections: &[u32],
+    times: &[u32],
+    tick: u32,
+    executed: &[u32],
+) -> [u32; 16]
     requires { ⌜ Sized (now jobs) (now times) (now executed) × SectionsFit (now sections) (length (now executed)) ⌝ }
-    ensures {
-      λ r. ⌜ HeldTo (plan (now (jobs .entry)) [] (now (sections .entry)) (now (times .entry))) (at tick (now (executed .entry)))
-        (length (now (sections .entry)) / 4) r ⌝
-    }
+    ensures { λ r. ⌜ HeldTo (plan (now (jobs .entry)) [] (now (sections .entry)) (now (times .entry))) (at tick (now (executed .entry)))
+        (length (now (sections .entry)) / 4) r ⌝ }
 {
     let many = sections.len() / 4;
     let mut units = [0u32; 16];
@@ -186,9 +211,7 @@ fn clears(span: Span, sections: &[u32], times: &[u32], units: [u32; 16], s: usiz
 // Whether a job of this span is below the ceiling of every resource of which units are held.
 fn may_start(span: Span, sections: &[u32], times: &[u32], units: [u32; 16]) -> bool
     requires { ⌜ SectionsFit (now sections) (length (now times) / 2) ⌝ }
-    ensures {
-      λ r. ⌜ r ≡ all (clearOf (plan [] [] (now (sections .entry)) (now (times .entry))) (span .0) units) (length (now (sections .entry)) / 4) ⌝
-    }
+    ensures { λ r. ⌜ r ≡ all (clearOf (plan [] [] (now (sections .entry)) (now (times .entry))) (span .0) units) (length (now (sections .entry)) / 4) ⌝ }
 {
     let many = sections.len() / 4;
     let mut s = 0;
@@ -204,10 +227,8 @@ fn may_start(span: Span, sections: &[u32], times: &[u32], units: [u32; 16]) -> b
 // The job that runs in this tick, if one does.
 pub fn choose(jobs: &[u32], sections: &[u32], times: &[u32], tick: u32, executed: &[u32]) -> Found
     requires { ⌜ Sized (now jobs) (now times) (now executed) × SectionsFit (now sections) (length (now executed)) ⌝ }
-    ensures {
-      λ r. ⌜ Within r (length (now (executed .entry)))
-        × (asOption r ≡ chosen (plan (now (jobs .entry)) [] (now (sections .entry)) (now (times .entry))) (at tick (now (executed .entry)))) ⌝
-    }
+    ensures { λ r. ⌜ Within r (length (now (executed .entry)))
+        × (asOption r ≡ chosen (plan (now (jobs .entry)) [] (now (sections .entry)) (now (times .entry))) (at tick (now (executed .entry)))) ⌝ }
 {
     let first = first_job(jobs, times, tick, executed, false);
     match first {

@@ -2,14 +2,18 @@
 mod choice;
 mod ends;
 mod tick;
+
 use crate::choice::Found;
 use rules::Refusal;
 ghost use mathlib.Core.Path.{_≡_};
-ghost use Prim.Native.Nat.{_≤_};
-ghost use Rattle.rules.specs.Refusals.{stepFault};
+ghost use mathlib.Core.List.{[]};
+ghost use Prim.Native.Nat.{_+_, _*_, _≤_, _<_};
+ghost use lib.ListN.{length, getD};
+ghost use Rattle.rules.specs.Refusals.{stepFault, gives};
 ghost use Rattle.rules.specs.Run.{answered, allEndBy};
 ghost use Rattle.dispatch.specs.Lists.{plan, timed, state, Fit, Bounded};
-ghost use Rattle.dispatch.specs.Promise.{asFault, Steps, lists, startFault, Starts, Runs};
+ghost use Rattle.dispatch.specs.Judged.{inBounds};
+ghost use Rattle.dispatch.specs.Promise.{asFault, Steps, lists, startFault, Starts, Runs, Lateness, asked, latenessIn};
 
 // What a step did: a job ran, the processor was idle, or the step was refused.
 pub enum Ran {
@@ -30,6 +34,26 @@ enum Judgement {
     Wrong(Refusal),
 }
 
+// Whether a plan and a state of it are within their bounds.
+fn in_bounds(
+    jobs: &[u32],
+    arcs: &[u32],
+    sections: &[u32],
+    times: &[u32],
+    tick: u32,
+    executed: &[u32],
+    marks: &[u32],
+    finish: &[u32],
+) -> bool
+    ensures { λ r. ⌜ r ≡ inBounds (plan (now (jobs .entry)) (now (arcs .entry)) (now (sections .entry)) (now (times .entry)))
+        (state tick (now (executed .entry)) (now (marks .entry)) (now (finish .entry))) ⌝ }
+{
+    if !plan::plan_in_bounds(jobs, arcs, sections, times) {
+        return false;
+    }
+    tick::state_in_bounds(jobs, tick, executed, marks, finish)
+}
+
 // 12 for a plan or a state out of bounds, then 13 where every job has finished.
 fn judge_step(
     jobs: &[u32],
@@ -41,15 +65,10 @@ fn judge_step(
     marks: &[u32],
     finish: &[u32],
 ) -> Judgement
-    ensures {
-      λ r. ⌜ asFault r ≡ stepFault (plan (now (jobs .entry)) (now (arcs .entry)) (now (sections .entry)) (now (times .entry)))
-        (state tick (now (executed .entry)) (now (marks .entry)) (now (finish .entry))) ⌝
-    }
+    ensures { λ r. ⌜ asFault r ≡ stepFault (plan (now (jobs .entry)) (now (arcs .entry)) (now (sections .entry)) (now (times .entry)))
+        (state tick (now (executed .entry)) (now (marks .entry)) (now (finish .entry))) ⌝ }
 {
-    if !plan::plan_in_bounds(jobs, arcs, sections, times) {
-        return Judgement::Wrong(Refusal::Bounds);
-    }
-    if !tick::state_in_bounds(jobs, tick, executed, marks, finish) {
+    if !in_bounds(jobs, arcs, sections, times, tick, executed, marks, finish) {
         return Judgement::Wrong(Refusal::Bounds);
     }
     if 10000000 <= tick {
@@ -73,20 +92,37 @@ pub fn step(
     finish: &mut [u32],
     silent: bool,
 ) -> Stepped
-    ensures {
-      λ r. ⌜ Steps (plan (now (jobs .entry)) (now (arcs .entry)) (now (sections .entry)) (now (times .entry)))
+    ensures { λ r. ⌜ Steps (plan (now (jobs .entry)) (now (arcs .entry)) (now (sections .entry)) (now (times .entry)))
         (state tick (now (executed .entry)) (now (marks .entry)) (now (finish .entry))) silent
-        r (state (r .tick) (now (executed .exit)) (now (marks .exit)) (now (finish .exit))) ⌝
-    }
+        r (state (r .tick) (now (executed .exit)) (now (marks .exit)) (now (finish .exit))) ⌝ }
 {
     let judged = judge_step(jobs, arcs, sections, times, tick, executed, marks, finish);
     if let Judgement::Wrong(refusal) = judged {
-        return Stepped { tick, ran: Ran::Refused(refusal) };
+        return Stepped {
+            tick,
+            ran: Ran::Refused(refusal),
+        };
     }
-    let found = tick::one_tick(jobs, arcs, sections, times, tick, executed, marks, finish, silent);
+    let found = tick::one_tick(
+        jobs,
+        arcs,
+        sections,
+        times,
+        tick,
+        executed,
+        marks,
+        finish,
+        silent,
+    );
     match found {
-        Found::Nothing => Stepped { tick: tick + 1, ran: Ran::Idle },
-        Found::At(job) => Stepped { tick: tick + 1, ran: Ran::Job(job as u32) },
+        Found::Nothing => Stepped {
+            tick: tick + 1,
+            ran: Ran::Idle,
+        },
+        Found::At(job) => Stepped {
+            tick: tick + 1,
+            ran: Ran::Job(job as u32),
+        },
     }
 }
 
@@ -97,10 +133,16 @@ pub enum Reached {
 }
 
 // 12 for a plan out of bounds, then 11 where a lent list is shorter than the jobs.
-fn judge_start(jobs: &[u32], arcs: &[u32], sections: &[u32], times: &[u32], executed: usize, marks: usize, finish: usize) -> Judgement
-    ensures {
-      λ r. ⌜ asFault r ≡ startFault (plan (now (jobs .entry)) (now (arcs .entry)) (now (sections .entry)) (now (times .entry))) executed marks finish ⌝
-    }
+fn judge_start(
+    jobs: &[u32],
+    arcs: &[u32],
+    sections: &[u32],
+    times: &[u32],
+    executed: usize,
+    marks: usize,
+    finish: usize,
+) -> Judgement
+    ensures { λ r. ⌜ asFault r ≡ startFault (plan (now (jobs .entry)) (now (arcs .entry)) (now (sections .entry)) (now (times .entry))) executed marks finish ⌝ }
 {
     if !plan::plan_in_bounds(jobs, arcs, sections, times) {
         return Judgement::Wrong(Refusal::Bounds);
@@ -119,14 +161,28 @@ fn judge_start(jobs: &[u32], arcs: &[u32], sections: &[u32], times: &[u32], exec
 }
 
 // The state at tick 0 of a plan, into the fronts of the lent lists.
-pub fn start(jobs: &[u32], arcs: &[u32], sections: &[u32], times: &[u32], executed: &mut [u32], marks: &mut [u32], finish: &mut [u32]) -> Reached
-    ensures {
-      λ r. ⌜ Starts (plan (now (jobs .entry)) (now (arcs .entry)) (now (sections .entry)) (now (times .entry)))
+pub fn start(
+    jobs: &[u32],
+    arcs: &[u32],
+    sections: &[u32],
+    times: &[u32],
+    executed: &mut [u32],
+    marks: &mut [u32],
+    finish: &mut [u32],
+) -> Reached
+    ensures { λ r. ⌜ Starts (plan (now (jobs .entry)) (now (arcs .entry)) (now (sections .entry)) (now (times .entry)))
         (lists (now (executed .entry)) (now (marks .entry)) (now (finish .entry))) r
-        (lists (now (executed .exit)) (now (marks .exit)) (now (finish .exit))) ⌝
-    }
+        (lists (now (executed .exit)) (now (marks .exit)) (now (finish .exit))) ⌝ }
 {
-    let judged = judge_start(jobs, arcs, sections, times, executed.len(), marks.len(), finish.len());
+    let judged = judge_start(
+        jobs,
+        arcs,
+        sections,
+        times,
+        executed.len(),
+        marks.len(),
+        finish.len(),
+    );
     if let Judgement::Wrong(refusal) = judged {
         return Reached::Refused(refusal);
     }
@@ -138,14 +194,20 @@ pub fn start(jobs: &[u32], arcs: &[u32], sections: &[u32], times: &[u32], execut
 }
 
 // Runs a judged plan from its start to its end, every report answered: the tick of the end state.
-fn run_on(jobs: &[u32], arcs: &[u32], sections: &[u32], times: &[u32], executed: &mut [u32], marks: &mut [u32], finish: &mut [u32]) -> u32
+fn run_on(
+    jobs: &[u32],
+    arcs: &[u32],
+    sections: &[u32],
+    times: &[u32],
+    executed: &mut [u32],
+    marks: &mut [u32],
+    finish: &mut [u32],
+) -> u32
     requires { ⌜ Fit (now jobs) (now arcs) (now sections) (now times) (now executed) (now marks) (now finish) × Bounded (now jobs) (now times) ⌝ }
-    ensures {
-      λ r. ⌜ state r (now (executed .exit)) (now (marks .exit)) (now (finish .exit))
+    ensures { λ r. ⌜ state r (now (executed .exit)) (now (marks .exit)) (now (finish .exit))
         ≡ answered (plan (now (jobs .entry)) (now (arcs .entry)) (now (sections .entry)) (now (times .entry)))
         (allEndBy (timed (now (jobs .entry)) (now (times .entry))))
-        (state 0 (now (executed .entry)) (now (marks .entry)) (now (finish .entry))) ⌝
-    }
+        (state 0 (now (executed .entry)) (now (marks .entry)) (now (finish .entry))) ⌝ }
 {
     let end = ends::all_end_by(jobs, times);
     let mut tick = 0;
@@ -153,25 +215,93 @@ fn run_on(jobs: &[u32], arcs: &[u32], sections: &[u32], times: &[u32], executed:
         if tick::all_finished(jobs, executed) {
             return tick;
         }
-        tick::one_tick(jobs, arcs, sections, times, tick, executed, marks, finish, false);
+        tick::one_tick(
+            jobs,
+            arcs,
+            sections,
+            times,
+            tick,
+            executed,
+            marks,
+            finish,
+            false,
+        );
         tick += 1;
     }
     tick
 }
 
 // Runs a plan from tick 0 to its end, every report answered: the end state, into the fronts of the lent lists.
-pub fn run(jobs: &[u32], arcs: &[u32], sections: &[u32], times: &[u32], executed: &mut [u32], marks: &mut [u32], finish: &mut [u32]) -> Reached
-    ensures {
-      λ r. ⌜ Runs (plan (now (jobs .entry)) (now (arcs .entry)) (now (sections .entry)) (now (times .entry)))
+pub fn run(
+    jobs: &[u32],
+    arcs: &[u32],
+    sections: &[u32],
+    times: &[u32],
+    executed: &mut [u32],
+    marks: &mut [u32],
+    finish: &mut [u32],
+) -> Reached
+    ensures { λ r. ⌜ Runs (plan (now (jobs .entry)) (now (arcs .entry)) (now (sections .entry)) (now (times .entry)))
         (lists (now (executed .entry)) (now (marks .entry)) (now (finish .entry))) r
-        (lists (now (executed .exit)) (now (marks .exit)) (now (finish .exit))) ⌝
-    }
+        (lists (now (executed .exit)) (now (marks .exit)) (now (finish .exit))) ⌝ }
 {
     let begun = start(jobs, arcs, sections, times, executed, marks, finish);
     if let Reached::Refused(refusal) = begun {
         return Reached::Refused(refusal);
     }
     let n = jobs.len() / 3;
-    let end = run_on(jobs, arcs, sections, times, &mut executed[..n], &mut marks[..n], &mut finish[..n]);
+    let end = run_on(
+        jobs,
+        arcs,
+        sections,
+        times,
+        &mut executed[..n],
+        &mut marks[..n],
+        &mut finish[..n],
+    );
     Reached::Tick(end)
+}
+
+// How late a job ended: by so many ticks, negative when early; or that it has not finished.
+pub enum Late {
+    By(i32),
+    Unfinished,
+    Refused(Refusal),
+}
+
+// The lateness of a job that is in the table, of a state within its bounds.
+fn late_at(jobs: &[u32], executed: &[u32], finish: &[u32], j: usize) -> Late
+    requires { ⌜ (3 * j + 2 < length (now jobs)) × (j < length (now executed)) × (j < length (now finish)) ⌝ }
+    requires { ⌜ (getD (now finish) j 0 ≤ 10000000) × (getD (now jobs) (3 * j + 2) 0 ≤ 1000000) ⌝ }
+    ensures { λ r. ⌜ asked r ≡ gives (latenessIn (timed (now (jobs .entry)) []) (state 0 (now (executed .entry)) [] (now (finish .entry))) j) ⌝ }
+{
+    if executed[j] != jobs[3 * j + 1] {
+        return Late::Unfinished;
+    }
+    Late::By(ends::late_by(finish[j], jobs[3 * j + 2]))
+}
+
+// The lateness of a job of a state: its finish less its own given deadline.
+pub fn lateness(
+    jobs: &[u32],
+    arcs: &[u32],
+    sections: &[u32],
+    times: &[u32],
+    tick: u32,
+    executed: &[u32],
+    marks: &[u32],
+    finish: &[u32],
+    job: u32,
+) -> Late
+    ensures { λ r. ⌜ Lateness (plan (now (jobs .entry)) (now (arcs .entry)) (now (sections .entry)) (now (times .entry)))
+        (state tick (now (executed .entry)) (now (marks .entry)) (now (finish .entry))) job r ⌝ }
+{
+    if !in_bounds(jobs, arcs, sections, times, tick, executed, marks, finish) {
+        return Late::Refused(Refusal::Bounds);
+    }
+    let j = job as usize;
+    if executed.len() <= j {
+        return Late::Refused(Refusal::Bounds);
+    }
+    late_at(jobs, executed, finish, j)
 }

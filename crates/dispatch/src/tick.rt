@@ -56,13 +56,20 @@ fn mark_at_end(arcs: &[u32], marks: &[u32], silent: bool, job: usize) -> u32
 }
 
 // Gives the job this tick; one that ends with it is marked, and its finish is the tick after it.
-fn give_tick(jobs: &[u32], arcs: &[u32], tick: u32, executed: &mut [u32], marks: &mut [u32], finish: &mut [u32], silent: bool, job: usize)
+fn give_tick(
+    jobs: &[u32],
+    arcs: &[u32],
+    tick: u32,
+    executed: &mut [u32],
+    marks: &mut [u32],
+    finish: &mut [u32],
+    silent: bool,
+    job: usize,
+)
     requires { ⌜ Same (now jobs) (now executed) (now marks) (now finish) × ArcsFit (now arcs) (length (now marks)) × (job < length (now executed)) ⌝ }
     requires { ⌜ (getD (now executed) job 0 < getD (now jobs) (3 * job + 1) 0) × (tick < 10000000) ⌝ }
-    ensures {
-      λ r. ⌜ state (tick + 1) (now (executed .exit)) (now (marks .exit)) (now (finish .exit))
-        ≡ advance (plan (now (jobs .entry)) (now (arcs .entry)) [] []) (state tick (now (executed .entry)) (now (marks .entry)) (now (finish .entry))) silent job ⌝
-    }
+    ensures { λ r. ⌜ state (tick + 1) (now (executed .exit)) (now (marks .exit)) (now (finish .exit))
+        ≡ advance (plan (now (jobs .entry)) (now (arcs .entry)) [] []) (state tick (now (executed .entry)) (now (marks .entry)) (now (finish .entry))) silent job ⌝ }
 {
     let done = executed[job] + 1;
     executed[job] = done;
@@ -73,13 +80,21 @@ fn give_tick(jobs: &[u32], arcs: &[u32], tick: u32, executed: &mut [u32], marks:
 }
 
 // One tick of a plan and a state that were judged: who ran.
-pub fn one_tick(jobs: &[u32], arcs: &[u32], sections: &[u32], times: &[u32], tick: u32, executed: &mut [u32], marks: &mut [u32], finish: &mut [u32], silent: bool) -> Found
+pub fn one_tick(
+    jobs: &[u32],
+    arcs: &[u32],
+    sections: &[u32],
+    times: &[u32],
+    tick: u32,
+    executed: &mut [u32],
+    marks: &mut [u32],
+    finish: &mut [u32],
+    silent: bool,
+) -> Found
     requires { ⌜ Fit (now jobs) (now arcs) (now sections) (now times) (now executed) (now marks) (now finish) × (tick < 10000000) ⌝ }
-    ensures {
-      λ r. ⌜ Within r (length (now (executed .entry))) × Ticked (plan (now (jobs .entry)) (now (arcs .entry)) (now (sections .entry)) (now (times .entry)))
+    ensures { λ r. ⌜ Within r (length (now (executed .entry))) × Ticked (plan (now (jobs .entry)) (now (arcs .entry)) (now (sections .entry)) (now (times .entry)))
         (state tick (now (executed .entry)) (now (marks .entry)) (now (finish .entry))) silent
-        (asOption r) (state (tick + 1) (now (executed .exit)) (now (marks .exit)) (now (finish .exit))) ⌝
-    }
+        (asOption r) (state (tick + 1) (now (executed .exit)) (now (marks .exit)) (now (finish .exit))) ⌝ }
 {
     let ran = choice::choose(jobs, sections, times, tick, executed);
     match ran {
@@ -108,9 +123,7 @@ pub fn all_finished(jobs: &[u32], executed: &[u32]) -> bool
 // Whether what a state says of one job is within bounds.
 fn job_state_right(jobs: &[u32], executed: &[u32], marks: &[u32], finish: &[u32], j: usize) -> bool
     requires { ⌜ Same (now jobs) (now executed) (now marks) (now finish) × (j < length (now executed)) ⌝ }
-    ensures {
-      λ r. ⌜ r ≡ jobStateRight (timed (now (jobs .entry)) []) (state 0 (now (executed .entry)) (now (marks .entry)) (now (finish .entry))) j ⌝
-    }
+    ensures { λ r. ⌜ r ≡ jobStateRight (timed (now (jobs .entry)) []) (state 0 (now (executed .entry)) (now (marks .entry)) (now (finish .entry))) j ⌝ }
 {
     if jobs[3 * j + 1] < executed[j] {
         return false;
@@ -122,11 +135,15 @@ fn job_state_right(jobs: &[u32], executed: &[u32], marks: &[u32], finish: &[u32]
 }
 
 // Whether a state belongs to this many jobs and is within bounds.
-pub fn state_in_bounds(jobs: &[u32], tick: u32, executed: &[u32], marks: &[u32], finish: &[u32]) -> bool
+pub fn state_in_bounds(
+    jobs: &[u32],
+    tick: u32,
+    executed: &[u32],
+    marks: &[u32],
+    finish: &[u32],
+) -> bool
     requires { ⌜ length (now jobs) % 3 ≡ 0 ⌝ }
-    ensures {
-      λ r. ⌜ r ≡ stateInBounds (timed (now (jobs .entry)) []) (state tick (now (executed .entry)) (now (marks .entry)) (now (finish .entry))) ⌝
-    }
+    ensures { λ r. ⌜ r ≡ stateInBounds (timed (now (jobs .entry)) []) (state tick (now (executed .entry)) (now (marks .entry)) (now (finish .entry))) ⌝ }
 {
     let n = jobs.len() / 3;
     if executed.len() != n {
@@ -147,9 +164,7 @@ pub fn state_in_bounds(jobs: &[u32], tick: u32, executed: &[u32], marks: &[u32],
 // Whether what a state says of each job is within bounds.
 fn all_states_right(jobs: &[u32], executed: &[u32], marks: &[u32], finish: &[u32]) -> bool
     requires { ⌜ Same (now jobs) (now executed) (now marks) (now finish) ⌝ }
-    ensures {
-      λ r. ⌜ r ≡ all (jobStateRight (timed (now (jobs .entry)) []) (state 0 (now (executed .entry)) (now (marks .entry)) (now (finish .entry)))) (length (now (executed .entry))) ⌝
-    }
+    ensures { λ r. ⌜ r ≡ all (jobStateRight (timed (now (jobs .entry)) []) (state 0 (now (executed .entry)) (now (marks .entry)) (now (finish .entry)))) (length (now (executed .entry))) ⌝ }
 {
     let n = executed.len();
     let mut j = 0;

@@ -1,46 +1,33 @@
 use Rattle.dispatch.specs.Promise.{start-unfit, short-executed, short-marks, short-finish, start-ready}
 use Rattle.dispatch.specs.Lists.{plan}
 use Rattle.rules.specs.Refusals.{planInBounds}
-use mathlib.Core.Path.{_≡_, refl, sym, _∙_, ap}
-use mathlib.Core.Bool.{Bool, true, false, not, _&&_, _||_}
-use mathlib.Core.Logic.{⊎-elim}
-use mathlib.Core.Option.{Option, none, some}
-use Prim.Native.Nat.{ℕ, _+_, _*_, _/_, _-_, _≤_, _<_}
+use mathlib.Core.Path.{_≡_, sym, _∙_}
+use mathlib.Core.Bool.{true}
 use native.Mathlib.Omega.{arith}
-use lib.ListN.{length, getD, set, take, drop}
-use borrow.Author.Tests.{not-true, not-false, le-leb, lt-leb, le-ltb, lt-ltb, eq-eqb, ne-eqb}
+use borrow.Author.Tests.{not-true, not-false}
 use borrow.Author.Needs.{needs}
 use Rattle.dispatch.proofs.judge_start.Statement.{statement}
 use Rattle.dispatch.proofs.judge_start.Tie as tie
-use Rattle.dispatch.proofs.judge_start.Reads as reads
-use Rattle.dispatch.proofs.judge_start.Lts as lts
-use Rattle.plan.proofs.plan_in_bounds.Reads as plan-in-bounds-reads
 
 plan-right : (c : tie.Else1) → let a = c .before .before .before .before .before .before .args in
     planInBounds (plan (a .jobs .now) (a .arcs .now) (a .sections .now) (a .times .now)) ≡ true
 plan-right c = sym (c .before .plan-in-bounds .ensures) ∙ not-false _ (c .if1 .left)
 
--- src/lib.rt:105:9
 plan-in-bounds-requires : tie.Need-plan-in-bounds-requires
 plan-in-bounds-requires c κs = search needs
 
--- src/lib.rt:106:9
 returns : tie.Need-returns
 returns c = start-unfit _ _ _ _ (sym (c .before .plan-in-bounds .ensures) ∙ not-true _ (c .if1 .taken))
 
--- src/lib.rt:110:9
 returns-2 : tie.Need-returns-2
 returns-2 c = short-executed _ _ _ _ (plan-right (c .before)) (c .if2 .taken)
 
--- src/lib.rt:113:9
 returns-3 : tie.Need-returns-3
 returns-3 c = short-marks _ _ _ _ (plan-right (c .before .before)) (omega arith) (omega arith)
 
--- src/lib.rt:116:9
 returns-4 : tie.Need-returns-4
 returns-4 c = short-finish _ _ _ _ (plan-right (c .before .before .before)) (omega arith) (omega arith) (omega arith)
 
--- src/lib.rt:100:1
 returns-5 : tie.Need-returns-5
 returns-5 c = start-ready _ _ _ _ (plan-right (c .before .before .before)) (omega arith) (omega arith) (omega arith)
 

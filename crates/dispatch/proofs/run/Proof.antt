@@ -6,21 +6,15 @@ use Rattle.dispatch.specs.Lists.{plan}
 use Rattle.rules.specs.Run.{start, endState, allEndBy}
 use Rattle.rules.specs.Refusals.{planInBounds}
 use Rattle.rules.specs.Table.{Plan, jobCount}
-use mathlib.Core.Path.{_≡_, refl, sym, _∙_, ap}
-use mathlib.Core.Bool.{Bool, true, false, not, _&&_, _||_}
-use mathlib.Core.Logic.{⊎-elim}
-use mathlib.Core.Option.{Option, none, some}
-use Prim.Native.Nat.{ℕ, _+_, _*_, _/_, _-_, _≤_, _<_}
+use mathlib.Core.Path.{_≡_, sym, _∙_, ap}
+use mathlib.Core.Bool.{true}
+use mathlib.Core.Option.{none}
+use Prim.Native.Nat.{_≤_}
 use native.Mathlib.Omega.{arith}
-use lib.ListN.{length, getD, set, take, drop}
-use borrow.Author.Tests.{not-true, not-false, le-leb, lt-leb, le-ltb, lt-ltb, eq-eqb, ne-eqb}
+use lib.ListN.{length}
 use borrow.Author.Needs.{needs}
 use Rattle.dispatch.proofs.run.Statement.{statement}
 use Rattle.dispatch.proofs.run.Tie as tie
-use Rattle.dispatch.proofs.run.Reads as reads
-use Rattle.dispatch.proofs.run.Lts as lts
-use Rattle.dispatch.proofs.run_on.Reads as run-on-reads
-use Rattle.dispatch.proofs.start.Reads as start-reads
 
 abbrev begin : tie.After-start → tie.Start
 begin c = c .before .before .before .before .before .before .before .before .before .before .before
@@ -50,27 +44,21 @@ roomy : (c : tie.After-enum-told) → let s = begin (began c) in
     × (jobCount (P s .table) ≤ length (s .args .finish .now))
 roomy c = start-room (P (begin (began c))) _ _ _ (facts c .0)
 
--- src/lib.rt:170:9
 start-requires : tie.Need-start-requires
 start-requires c κs = search needs
 
--- src/lib.rt:171:29
 enum-known-begun : tie.Need-enum-known-begun
 enum-known-begun c = search needs
 
--- src/lib.rt:172:9
 same-length : tie.Need-same-length
 same-length c = search needs
 
--- src/lib.rt:172:9
 same-length-2 : tie.Need-same-length-2
 same-length-2 c = search needs
 
--- src/lib.rt:172:9
 same-length-3 : tie.Need-same-length-3
 same-length-3 c = search needs
 
--- src/lib.rt:172:9
 returns : tie.Need-returns
 returns c =
     let b = c .before in
@@ -82,50 +70,39 @@ returns c =
 enum-told : tie.Need-enum-told
 enum-told c = search needs
 
--- src/lib.rt:175:51
 slice-relend-prefix-run-on : tie.Need-slice-relend-prefix-run-on
 slice-relend-prefix-run-on c = omega (arith, roomy c .1)
 
--- src/lib.rt:175:51
 slice-aggregate-run-on : tie.Need-slice-aggregate-run-on
 slice-aggregate-run-on c = sym (length-take-le _ _ (omega (arith, roomy (c .before) .1)))
 
--- src/lib.rt:175:71
 slice-relend-prefix-run-on-2 : tie.Need-slice-relend-prefix-run-on-2
 slice-relend-prefix-run-on-2 c = omega (arith, roomy (c .before) .2)
 
--- src/lib.rt:175:71
 slice-aggregate-run-on-2 : tie.Need-slice-aggregate-run-on-2
 slice-aggregate-run-on-2 c = sym (length-take-le _ _ (omega (arith, roomy (c .before .before) .2)))
 
--- src/lib.rt:175:88
 slice-relend-prefix-run-on-3 : tie.Need-slice-relend-prefix-run-on-3
 slice-relend-prefix-run-on-3 c = omega (arith, roomy (c .before .before) .3)
 
--- src/lib.rt:175:88
 slice-aggregate-run-on-3 : tie.Need-slice-aggregate-run-on-3
 slice-aggregate-run-on-3 c = sym (length-take-le _ _ (omega (arith, roomy (c .before .before .before) .3)))
 
--- src/lib.rt:175:9
 run-on-requires : tie.Need-run-on-requires
 run-on-requires c κs =
     let t = c .before .before .before in
     let r = roomy t in
     (plan-fit _ _ _ _ 0 _ _ _ (r .0) (length-take-le _ _ (omega arith)) (length-take-le _ _ (omega arith)) (length-take-le _ _ (omega arith)), bounded _ _ _ _ (r .0))
 
--- src/lib.rt:163:1
 same-length-4 : tie.Need-same-length-4
 same-length-4 c = search needs
 
--- src/lib.rt:163:1
 same-length-5 : tie.Need-same-length-5
 same-length-5 c = search needs
 
--- src/lib.rt:163:1
 same-length-6 : tie.Need-same-length-6
 same-length-6 c = search needs
 
--- src/lib.rt:163:1
 returns-2 : tie.Need-returns-2
 unfolding allEndBy
 returns-2 c =
@@ -136,11 +113,12 @@ returns-2 c =
     let r = roomy t in
     record {
       is =
-        run-holds (P (begin s)) (L (begin s)) (L₁ s) _ _ _ _ (facts t .1) (o .run-on .ensures)
-        (omega (arith, length-take-le n (L₁ s .executed) (omega arith)))
-        (omega (arith, length-take-le n (L₁ s .marks) (omega arith)))
-        (omega (arith, length-take-le n (L₁ s .finish) (omega arith)))
-        ∙ sym (ap (reachFor (endState (P (begin s))) (L (begin s))) (facts t .0)) }
+          run-holds (P (begin s)) (L (begin s)) (L₁ s) _ _ _ _ (facts t .1) (o .run-on .ensures)
+          (omega (arith, length-take-le n (L₁ s .executed) (omega arith)))
+          (omega (arith, length-take-le n (L₁ s .marks) (omega arith)))
+          (omega (arith, length-take-le n (L₁ s .finish) (omega arith)))
+          ∙ sym (ap (reachFor (endState (P (begin s))) (L (begin s))) (facts t .0));
+    }
 
 pub run-spec : {M : Type 1} → statement M
 run-spec =

@@ -1,24 +1,13 @@
 use Rattle.dispatch.specs.Ends.{Going, fit-same, run-begins, run-over, run-stops, run-goes}
-use Rattle.dispatch.specs.Lists.{plan, timed, state, at, Fit, Bounded, Ticked}
-use Rattle.rules.specs.Run.{answered, allEndBy}
+use Rattle.dispatch.specs.Lists.{plan, state, Fit}
+use Rattle.rules.specs.Run.{answered}
 use Rattle.rules.specs.Refusals.{allFinished}
-use mathlib.Core.List.{[]}
-use mathlib.Core.Path.{_≡_, refl, sym, _∙_, ap}
-use mathlib.Core.Bool.{Bool, true, false, not, _&&_, _||_}
-use mathlib.Core.Logic.{⊎-elim}
-use mathlib.Core.Option.{Option, none, some}
-use Prim.Native.Nat.{ℕ, _+_, _*_, _/_, _-_, _≤_, _<_}
+use mathlib.Core.Path.{refl, sym, _∙_}
+use Prim.Native.Nat.{_-_, _≤_}
 use native.Mathlib.Omega.{arith}
-use lib.ListN.{length, getD, set, take, drop}
-use borrow.Author.Tests.{not-true, not-false, le-leb, lt-leb, le-ltb, lt-ltb, eq-eqb, ne-eqb}
 use borrow.Author.Needs.{needs}
 use Rattle.dispatch.proofs.run_on.Statement.{statement}
 use Rattle.dispatch.proofs.run_on.Tie as tie
-use Rattle.dispatch.proofs.run_on.Reads as reads
-use Rattle.dispatch.proofs.run_on.Lts as lts
-use Rattle.dispatch.proofs.ends.all_end_by.Reads as all-end-by-reads
-use Rattle.dispatch.proofs.tick.all_finished.Reads as all-finished-reads
-use Rattle.dispatch.proofs.tick.one_tick.Reads as one-tick-reads
 
 abbrev Inv-loop : tie.InvT-loop
 Inv-loop jobs arcs sections times executed₀ marks₀ finish₀ end tick₀ executed marks finish tick = (end ≤ 7400000) × Fit jobs arcs sections times executed marks finish × Going (plan jobs arcs sections times) (state tick executed marks finish) end (answered (plan jobs arcs sections times) end (state 0 executed₀ marks₀ finish₀))
@@ -26,75 +15,61 @@ Inv-loop jobs arcs sections times executed₀ marks₀ finish₀ end tick₀ exe
 abbrev μ-loop : tie.MeasureT-loop
 μ-loop jobs arcs sections times executed₀ marks₀ finish₀ end tick₀ executed marks finish tick = end - tick
 
--- src/lib.rt:150:9
 all-end-by-requires : tie.Need-all-end-by-requires Inv-loop μ-loop
 all-end-by-requires c κs = search needs
 
--- src/lib.rt:152:5
 loop-holds : tie.Need-loop-holds Inv-loop μ-loop
 loop-holds c = (c .all-end-by .ensures .1, c .before .before .before .before .before .before .before .before .pre .0, run-begins _ _ _ refl)
 
--- src/lib.rt:153:12
 all-finished-requires : tie.Need-all-finished-requires Inv-loop μ-loop
 all-finished-requires c κs = c .before .before .loop .inv .1 .lists .by-job
 
--- src/lib.rt:154:13
 same-length : tie.Need-same-length Inv-loop μ-loop
 same-length c = search needs
 
--- src/lib.rt:154:13
 same-length-2 : tie.Need-same-length-2 Inv-loop μ-loop
 same-length-2 c = search needs
 
--- src/lib.rt:154:13
 same-length-3 : tie.Need-same-length-3 Inv-loop μ-loop
 same-length-3 c = search needs
 
--- src/lib.rt:154:13
 returns : tie.Need-returns Inv-loop μ-loop
 unfolding allFinished
 returns c =
     let l = c .before .before .before .before in
     rw (← l .before .all-end-by .ensures .0) (run-stops (l .loop .inv .2) (omega arith) (sym (c .before .all-finished .ensures) ∙ c .if1 .taken))
 
--- src/lib.rt:156:9
 one-tick-requires : tie.Need-one-tick-requires Inv-loop μ-loop
 one-tick-requires c κs =
     let l = c .before .before .before .before .before .before .before in
     (l .loop .inv .1, omega arith)
 
--- src/lib.rt:157:9
 add-tick : tie.Need-add-tick Inv-loop μ-loop
 add-tick c = search needs
 
--- src/lib.rt:152:5
 loop-less : tie.Need-loop-less Inv-loop μ-loop
 loop-less c = search needs
 
--- src/lib.rt:152:5
 loop-again : tie.Need-loop-again Inv-loop μ-loop
 unfolding allFinished
 loop-again c =
     let t = c .before .before .before .before .before .before in
     let e = t .before .before .before .before in
-    let l = e .before .before .before .before in
-    (l .loop .inv .0,
-    fit-same (l .loop .inv .1) (omega arith) (omega arith) (omega arith),
-    run-goes (l .loop .inv .2) _ refl (omega arith) (sym (e .before .all-finished .ensures) ∙ e .if1 .left) (t .one-tick .ensures .1 .becomes))
+    let l = e .before .before .before .before in (
+      l .loop .inv .0,
+      fit-same (l .loop .inv .1) (omega arith) (omega arith) (omega arith),
+      run-goes (l .loop .inv .2) _ refl (omega arith) (sym (e .before .all-finished .ensures) ∙ e .if1 .left) (t .one-tick .ensures .1 .becomes),
+    )
 
--- src/lib.rt:141:1
 same-length-4 : tie.Need-same-length-4 Inv-loop μ-loop
 same-length-4 c = search needs
 
--- src/lib.rt:141:1
 same-length-5 : tie.Need-same-length-5 Inv-loop μ-loop
 same-length-5 c = search needs
 
--- src/lib.rt:141:1
 same-length-6 : tie.Need-same-length-6 Inv-loop μ-loop
 same-length-6 c = search needs
 
--- src/lib.rt:141:1
 returns-2 : tie.Need-returns-2 Inv-loop μ-loop
 returns-2 c = rw (← c .before .before .all-end-by .ensures .0) (run-over (c .before .loop .inv .2) (omega arith))
 

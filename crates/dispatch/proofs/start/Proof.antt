@@ -3,21 +3,14 @@ use Rattle.dispatch.specs.Promise.{asFault, Lists, lists, faultFor, star
 use Rattle.dispatch.specs.Lists.{plan}
 use Rattle.rules.specs.Refusals.{planInBounds}
 use Rattle.rules.specs.Table.{Plan, jobCount}
-use mathlib.Core.Path.{_≡_, refl, sym, _∙_, ap}
-use mathlib.Core.Bool.{Bool, true, false, not, _&&_, _||_}
-use mathlib.Core.Logic.{⊎-elim}
-use mathlib.Core.Option.{Option, none, some}
-use Prim.Native.Nat.{ℕ, _+_, _*_, _/_, _-_, _≤_, _<_}
-use native.Mathlib.Omega.{arith}
-use lib.ListN.{length, getD, set, take, drop}
-use borrow.Author.Tests.{not-true, not-false, le-leb, lt-leb, le-ltb, lt-ltb, eq-eqb, ne-eqb}
+use mathlib.Core.Path.{_≡_, sym, _∙_, ap}
+use mathlib.Core.Bool.{true}
+use mathlib.Core.Option.{none}
+use Prim.Native.Nat.{_≤_}
+use lib.ListN.{length}
 use borrow.Author.Needs.{needs}
 use Rattle.dispatch.proofs.start.Statement.{statement}
 use Rattle.dispatch.proofs.start.Tie as tie
-use Rattle.dispatch.proofs.start.Reads as reads
-use Rattle.dispatch.proofs.start.Lts as lts
-use Rattle.dispatch.proofs.ends.clear.Reads as clear-reads
-use Rattle.dispatch.proofs.judge_start.Reads as judge-start-reads
 
 abbrev begin : tie.After-judge-start → tie.Start
 begin c = c .before .before .before .before .before .before .before .before
@@ -41,15 +34,12 @@ roomy : (c : tie.After-enum-told) → let s = judged c in
     × (jobCount (P s .table) ≤ length (s .args .finish .now))
 roomy c = start-room (P (judged c)) _ _ _ (free c)
 
--- src/lib.rt:129:9
 judge-start-requires : tie.Need-judge-start-requires
 judge-start-requires c κs = search needs
 
--- src/lib.rt:130:29
 enum-known-judged : tie.Need-enum-known-judged
 enum-known-judged c = search needs
 
--- src/lib.rt:131:9
 returns : tie.Need-returns
 returns c =
     let j = c .before in
@@ -58,31 +48,24 @@ returns c =
 enum-told : tie.Need-enum-told
 enum-told c = search needs
 
--- src/lib.rt:134:5
 clear-requires : tie.Need-clear-requires
 clear-requires c κs = roomy (c .before) .1
 
--- src/lib.rt:135:5
 clear-requires-2 : tie.Need-clear-requires-2
 clear-requires-2 c κs = roomy (c .before .before .before .before .before) .2
 
--- src/lib.rt:136:5
 clear-requires-3 : tie.Need-clear-requires-3
 clear-requires-3 c κs = roomy (c .before .before .before .before .before .before .before .before .before) .3
 
--- src/lib.rt:122:1
 same-length : tie.Need-same-length
 same-length c = search needs
 
--- src/lib.rt:122:1
 same-length-2 : tie.Need-same-length-2
 same-length-2 c = search needs
 
--- src/lib.rt:122:1
 same-length-3 : tie.Need-same-length-3
 same-length-3 c = search needs
 
--- src/lib.rt:122:1
 returns-2 : tie.Need-returns-2
 unfolding start
 returns-2 c =

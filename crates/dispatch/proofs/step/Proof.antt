@@ -1,23 +1,16 @@
 use Rattle.dispatch.specs.Promise.{asFault, step-refused, step-idle, step-ran}
 use Rattle.dispatch.specs.Judged.{step-fit}
-use Rattle.dispatch.specs.Lists.{plan, state, asOption, within-at, Fit, Ticked}
-use Rattle.rules.specs.Refusals.{stepFault, faultOf}
+use Rattle.dispatch.specs.Lists.{plan, state, asOption, within-at, Fit}
+use Rattle.rules.specs.Refusals.{stepFault}
 use Rattle.rules.specs.Table.{Plan, State}
-use mathlib.Core.Path.{_≡_, refl, sym, _∙_, ap}
-use mathlib.Core.Bool.{Bool, true, false, not, _&&_, _||_}
-use mathlib.Core.Logic.{⊎-elim}
-use mathlib.Core.Option.{Option, none, some}
-use Prim.Native.Nat.{ℕ, _+_, _*_, _/_, _-_, _≤_, _<_}
+use mathlib.Core.Path.{_≡_, sym, _∙_, ap}
+use mathlib.Core.Option.{none}
+use Prim.Native.Nat.{ℕ, _<_}
 use native.Mathlib.Omega.{arith}
-use lib.ListN.{length, getD, set, take, drop}
-use borrow.Author.Tests.{not-true, not-false, le-leb, lt-leb, le-ltb, lt-ltb, eq-eqb, ne-eqb}
+use lib.ListN.{length}
 use borrow.Author.Needs.{needs}
 use Rattle.dispatch.proofs.step.Statement.{statement}
 use Rattle.dispatch.proofs.step.Tie as tie
-use Rattle.dispatch.proofs.step.Reads as reads
-use Rattle.dispatch.proofs.step.Lts as lts
-use Rattle.dispatch.proofs.judge_step.Reads as judge-step-reads
-use Rattle.dispatch.proofs.tick.one_tick.Reads as one-tick-reads
 
 abbrev start : tie.After-judge-step → tie.Start
 start c = c .before .before .before .before .before .before .before .before .before .before .before
@@ -51,27 +44,21 @@ job c = c .found .given .0 .0
 in-table : (c : tie.After-found) → job c < length (start (began (ran c) .before .before) .args .executed .now)
 in-table c = within-at _ _ _ (ran c .one-tick .ensures .0) (c .found .given .1)
 
--- src/lib.rt:79:9
 judge-step-requires : tie.Need-judge-step-requires
 judge-step-requires c κs = search needs
 
--- src/lib.rt:80:29
 enum-known-judged : tie.Need-enum-known-judged
 enum-known-judged c = search needs
 
--- src/lib.rt:81:9
 same-length : tie.Need-same-length
 same-length c = search needs
 
--- src/lib.rt:81:9
 same-length-2 : tie.Need-same-length-2
 same-length-2 c = search needs
 
--- src/lib.rt:81:9
 same-length-3 : tie.Need-same-length-3
 same-length-3 c = search needs
 
--- src/lib.rt:81:9
 returns : tie.Need-returns
 returns c =
     let j = c .before in
@@ -80,61 +67,47 @@ returns c =
 enum-told : tie.Need-enum-told
 enum-told c = search needs
 
--- src/lib.rt:83:9
 one-tick-requires : tie.Need-one-tick-requires
 one-tick-requires c κs = let f = fits (c .before .before .before) in (f .0, f .1)
 
--- src/lib.rt:85:43
 enum-told-2 : tie.Need-enum-told-2
 enum-told-2 c = search needs
 
--- src/lib.rt:85:43
 add-t28 : tie.Need-add-t28
 add-t28 c = omega (arith, fits (began (idle c)) .1)
 
--- src/lib.rt:86:19
 enum-known-found : tie.Need-enum-known-found
 enum-known-found c = search needs
 
--- src/lib.rt:86:43
 add-t30 : tie.Need-add-t30
 add-t30 c = omega (arith, fits (began (ran (c .before))) .1)
 
--- src/lib.rt:86:67
 cast-t31 : tie.Need-cast-t31
 cast-t31 c = omega (arith, fits (began (ran (c .before))) .0 .few-jobs, in-table (c .before))
 
--- src/lib.rt:62:1
 same-length-4 : tie.Need-same-length-4
 same-length-4 c = search needs
 
--- src/lib.rt:62:1
 same-length-5 : tie.Need-same-length-5
 same-length-5 c = search needs
 
--- src/lib.rt:62:1
 same-length-6 : tie.Need-same-length-6
 same-length-6 c = search needs
 
--- src/lib.rt:62:1
 returns-2 : tie.Need-returns-2
 returns-2 c =
     let o = idle c in
     record { is = step-idle _ _ _ _ _ (taken (began o)) (o .one-tick .ensures .1) (ap asOption (c .enum-told2 .given .1)) }
 
--- src/lib.rt:62:1
 same-length-7 : tie.Need-same-length-7
 same-length-7 c = search needs
 
--- src/lib.rt:62:1
 same-length-8 : tie.Need-same-length-8
 same-length-8 c = search needs
 
--- src/lib.rt:62:1
 same-length-9 : tie.Need-same-length-9
 same-length-9 c = search needs
 
--- src/lib.rt:62:1
 returns-3 : tie.Need-returns-3
 returns-3 c =
     let o = ran (c .before) in

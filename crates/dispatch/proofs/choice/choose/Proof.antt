@@ -1,26 +1,18 @@
 use Rattle.dispatch.specs.Choice.{first-pending-is, first-started-is, may-start-is, chosen-idle, chosen-resumes, chosen-starts, chosen-detains}
-use Rattle.dispatch.specs.Lists.{plan, at, asOption, Within, candidate, SectionsFit, HeldTo, clearOf}
-use Rattle.rules.specs.Tick.{pending, started, firstPending, firstStarted, mayStart, chosen}
+use Rattle.dispatch.specs.Lists.{plan, at, asOption, candidate, clearOf}
+use Rattle.rules.specs.Tick.{pending, started, firstPending, mayStart}
 use Rattle.rules.specs.Order.{comesBefore}
-use Rattle.rules.specs.Table.{Plan, State, jobCount, span}
+use Rattle.rules.specs.Table.{Plan, State}
 use mathlib.Core.List.{[]}
-use mathlib.Core.Path.{_≡_, refl, sym, _∙_, ap}
-use mathlib.Core.Bool.{Bool, true, false, not, _&&_, _||_}
-use mathlib.Core.Logic.{⊎-elim}
-use mathlib.Core.Option.{Option, none, some}
-use Prim.Native.Nat.{ℕ, _+_, _*_, _/_, _-_, _≤_, _<_}
+use mathlib.Core.Path.{_≡_, sym, _∙_, ap}
+use mathlib.Core.Option.{some}
+use Prim.Native.Nat.{ℕ, _/_, _<_}
 use native.Mathlib.Omega.{arith}
-use lib.ListN.{length, getD, set, take, drop}
-use borrow.Author.Tests.{not-true, not-false, le-leb, lt-leb, le-ltb, lt-ltb, eq-eqb, ne-eqb}
+use lib.ListN.{length}
+use borrow.Author.Tests.{le-ltb, lt-ltb}
 use borrow.Author.Needs.{needs}
 use Rattle.dispatch.proofs.choice.choose.Statement.{statement}
 use Rattle.dispatch.proofs.choice.choose.Tie as tie
-use Rattle.dispatch.proofs.choice.choose.Reads as reads
-use Rattle.dispatch.proofs.choice.choose.Lts as lts
-use Rattle.dispatch.proofs.choice.first_job.Reads as first-job-reads
-use Rattle.dispatch.proofs.choice.held_units.Reads as held-units-reads
-use Rattle.dispatch.proofs.choice.may_start.Reads as may-start-reads
-use Rattle.dispatch.proofs.choice.span_of.Reads as span-of-reads
 
 -- the plan and the state of a place
 abbrev P : tie.Start → Plan
@@ -59,74 +51,62 @@ may c =
     c .may-start .ensures
     ∙ may-start-is (P (begin (named c))) (S (begin (named c))) _ (c .before .before .held-units .ensures) (λ s l. begin (named c) .pre .1 .inside s l .1) (job (named c)) _ (c .before .span-of .ensures)
 
--- src/choice.rt:212:9
 first-job-requires : tie.Need-first-job-requires
 first-job-requires c κs = search needs
 
--- src/choice.rt:214:27
 enum-told : tie.Need-enum-told
 enum-told c = search needs
 
--- src/choice.rt:215:19
 enum-known-first : tie.Need-enum-known-first
 enum-known-first c = search needs
 
--- src/choice.rt:216:20
 mul-if1 : tie.Need-mul-if1
 mul-if1 c = let h = in-table (c .before) in omega arith
 
--- src/choice.rt:216:20
 shared-slice-read-if1 : tie.Need-shared-slice-read-if1
 shared-slice-read-if1 c = let h = in-table (c .before .before) in omega arith
 
--- src/choice.rt:217:17
 returns : tie.Need-returns
 unfolding started
 returns c =
     let f = c .before .before .before in
     (in-table f, sym (chosen-resumes _ _ _ (at-job f) (lt-ltb _ _ (c .if1 .taken))))
 
--- src/choice.rt:219:17
 held-units-requires : tie.Need-held-units-requires
 held-units-requires c κs = search needs
 
--- src/choice.rt:220:26
 span-of-requires : tie.Need-span-of-requires
 span-of-requires c κs = let h = in-table (c .before .before .before .before) in omega arith
 
--- src/choice.rt:220:16
 may-start-requires : tie.Need-may-start-requires
 may-start-requires c κs =
     let b = begin (c .before .before .before .before .before) .pre in
     let e : length (begin (c .before .before .before .before .before) .args .times .now) / 2 ≡ length (begin (c .before .before .before .before .before) .args .executed .now) = omega arith in
     rw e (b .1)
 
--- src/choice.rt:221:17
 returns-2 : tie.Need-returns-2
 unfolding started
 returns-2 c =
     let f = c .before .before .before .before .before .before .before in
     (in-table f, sym (chosen-starts _ _ _ (at-job f) (le-ltb _ _ (c .before .before .before .before .if1 .left)) (sym (may (c .before)) ∙ c .if2 .taken)))
 
--- src/choice.rt:223:13
 first-job-requires-2 : tie.Need-first-job-requires-2
 first-job-requires-2 c κs = search needs
 
--- src/choice.rt:205:1
 returns-3 : tie.Need-returns-3
 returns-3 c =
     let a = c .before .before in
     (a .first-job .ensures .0, rw (c .enum-told .given .1) (sym (chosen-idle _ _ (sym (found a) ∙ ap asOption (c .enum-told .given .1)))))
 
--- src/choice.rt:205:1
 returns-4 : tie.Need-returns-4
 unfolding started comesBefore candidate pending
 returns-4 c =
-    let f = c .before .before .before .before .before .before .before .before in
-    (c .first-job2 .ensures .0,
-    c .first-job2 .ensures .1
-    ∙ first-started-is (P (begin f)) (S (begin f)) _ (omega arith)
-    ∙ sym (chosen-detains _ _ _ (at-job f) (le-ltb _ _ (c .before .before .before .before .before .if1 .left)) (sym (may (c .before .before)) ∙ c .before .if2 .left)))
+    let f = c .before .before .before .before .before .before .before .before in (
+      c .first-job2 .ensures .0,
+      c .first-job2 .ensures .1
+          ∙ first-started-is (P (begin f)) (S (begin f)) _ (omega arith)
+          ∙ sym (chosen-detains _ _ _ (at-job f) (le-ltb _ _ (c .before .before .before .before .before .if1 .left)) (sym (may (c .before .before)) ∙ c .before .if2 .left)),
+    )
 
 pub choose-spec : {M : Type 1} → statement M
 choose-spec =

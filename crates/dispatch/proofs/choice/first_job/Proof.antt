@@ -1,5 +1,5 @@
 use borrow.Author.Needs.{needs}
-use Rattle.dispatch.specs.Lists.{timed, at, asOption, Within, candidate, Sized}
+use Rattle.dispatch.specs.Lists.{timed, at, asOption, Within, candidate}
 use Rattle.laws.specs.First.{first-more}
 use Rattle.rules.specs.Order.{comesBefore}
 use Rattle.rules.specs.Rows.{first, better}
@@ -9,9 +9,6 @@ use Prim.Native.Nat.{_≤_, _-_}
 use mathlib.Core.Path.{_≡_, refl, sym, _∙_, ap}
 use Rattle.dispatch.proofs.choice.first_job.Statement.{statement}
 use Rattle.dispatch.proofs.choice.first_job.Tie as tie
-use Rattle.dispatch.proofs.choice.first_job.Reads as reads
-use Rattle.dispatch.proofs.choice.first_job.Lts as lts
-use Rattle.dispatch.proofs.choice.turn.Reads as turn-reads
 
 abbrev Inv-loop : tie.InvT-loop
 Inv-loop jobs times tick executed started-only n best₀ j₀ best j = (j ≤ n) × Within best (length executed) × (asOption best ≡ first (comesBefore (timed jobs times)) (candidate started-only (timed jobs times) (at tick executed)) j)
@@ -19,28 +16,22 @@ Inv-loop jobs times tick executed started-only n best₀ j₀ best j = (j ≤ n)
 abbrev μ-loop : tie.MeasureT-loop
 μ-loop jobs times tick executed started-only n best₀ j₀ best j = n - j
 
--- src/choice.rt:119:5
 loop-holds : tie.Need-loop-holds Inv-loop μ-loop
 unfolding first
 loop-holds c = (omega arith, tt, refl)
 
--- src/choice.rt:120:9
 turn-requires : tie.Need-turn-requires Inv-loop μ-loop
 turn-requires c κs = search needs
 
--- src/choice.rt:121:9
 add-j : tie.Need-add-j Inv-loop μ-loop
 add-j c = search needs
 
--- src/choice.rt:119:5
 loop-less : tie.Need-loop-less Inv-loop μ-loop
 loop-less c = search needs
 
--- src/choice.rt:119:5
 loop-again : tie.Need-loop-again Inv-loop μ-loop
 loop-again c = (omega arith, c .turn .ensures .0, c .turn .ensures .1 ∙ ap (better _ _ _) (c .before .before .loop .inv .2) ∙ sym (first-more _ _ _))
 
--- src/choice.rt:109:1
 returns : tie.Need-returns Inv-loop μ-loop
 returns c =
     let e : c .before .loop .j ≡ length (c .before .before .before .before .before .args .executed .now) = omega arith in

@@ -1,24 +1,15 @@
 use Rattle.rules.specs.Tick.{pending}
 use Rattle.dispatch.specs.Choice.{held-start, held-skip, held-more, held-few}
-use Rattle.dispatch.specs.Lists.{plan, at, HeldTo, Sized, SectionsFit}
-use mathlib.Core.Path.{_≡_, refl, sym, _∙_, ap}
-use mathlib.Core.Bool.{Bool, true, false, not, _&&_, _||_}
+use Rattle.dispatch.specs.Lists.{plan, at, HeldTo}
+use mathlib.Core.Path.{_≡_, sym, _∙_}
 use mathlib.Core.Logic.{⊎-elim}
-use mathlib.Core.Option.{Option, none, some}
 use mathlib.Core.List.{[]}
-use Prim.Native.Nat.{ℕ, _+_, _*_, _/_, _-_, _≤_, _<_}
+use Prim.Native.Nat.{_+_, _*_, _/_, _-_, _≤_, _<_}
 use native.Mathlib.Omega.{arith}
-use lib.ListN.{length, getD, set, take, drop}
-use borrow.Author.Tests.{not-true, not-false, le-leb, lt-leb, le-ltb, lt-ltb, eq-eqb, ne-eqb}
+use lib.ListN.{length, getD}
 use borrow.Author.Needs.{needs}
 use Rattle.dispatch.proofs.choice.held_units.Statement.{statement}
 use Rattle.dispatch.proofs.choice.held_units.Tie as tie
-use Rattle.dispatch.proofs.choice.held_units.Reads as reads
-use Rattle.dispatch.proofs.choice.held_units.Lts as lts
-use Rattle.dispatch.proofs.choice.entry.Reads as entry-reads
-use Rattle.dispatch.proofs.choice.is_held.Reads as is-held-reads
-
-
 
 abbrev Inv-loop : tie.InvT-loop
 Inv-loop jobs sections times tick executed many units₀ s₀ units s = (s ≤ many) × HeldTo (plan jobs [] sections times) (at tick executed) s units
@@ -30,53 +21,41 @@ abbrev μ-loop : tie.MeasureT-loop
 named : (c : tie.In-loop Inv-loop μ-loop) → getD (c .before .before .before .before .before .before .args .sections .now) (4 * c .before .loop .s + 1) 0 < 16
 named c = c .before .before .before .before .before .before .pre .1 .inside (c .before .loop .s) (omega arith) .1
 
--- src/choice.rt:163:5
 loop-holds : tie.Need-loop-holds Inv-loop μ-loop
 loop-holds c = (omega arith, held-start _ _)
 
--- src/choice.rt:164:12
 is-held-requires : tie.Need-is-held-requires Inv-loop μ-loop
 is-held-requires c κs = search needs
 
--- src/choice.rt:165:37
 mul-entry : tie.Need-mul-entry Inv-loop μ-loop
 mul-entry c = search needs
 
--- src/choice.rt:165:37
 add-entry : tie.Need-add-entry Inv-loop μ-loop
 add-entry c = search needs
 
--- src/choice.rt:165:17
 entry-requires : tie.Need-entry-requires Inv-loop μ-loop
 entry-requires c κs = search needs
 
--- src/choice.rt:166:13
 mul-units : tie.Need-mul-units Inv-loop μ-loop
 mul-units c = let h = named (c .before .before .before) in omega arith
 
--- src/choice.rt:166:13
 array-read-units : tie.Need-array-read-units Inv-loop μ-loop
 array-read-units c = let h = named (c .before .before .before) in omega arith
 
--- src/choice.rt:166:13
 add-units : tie.Need-add-units Inv-loop μ-loop
 add-units c =
     let h = named (c .before .before .before) in
     omega (arith, held-few _ _ (c .before .before .before .before .loop .inv .1) (c .entry .result) (omega arith))
 
--- src/choice.rt:166:13
 array-write-units : tie.Need-array-write-units Inv-loop μ-loop
 array-write-units c = let h = named (c .before .before .before) in omega arith
 
--- src/choice.rt:168:9
 add-s : tie.Need-add-s Inv-loop μ-loop
 add-s c = search needs
 
--- src/choice.rt:163:5
 loop-less : tie.Need-loop-less Inv-loop μ-loop
 loop-less c = search needs
 
--- src/choice.rt:163:5
 loop-again : tie.Need-loop-again Inv-loop μ-loop
 unfolding pending
 loop-again c =
@@ -86,7 +65,6 @@ loop-again c =
     (λ w. (omega arith, rw (w .1) (held-skip _ _ (l .before .loop .inv .1) (sym (c .before .is-held .ensures) ∙ w .0 .left))))
     (c .if1 .came)
 
--- src/choice.rt:153:1
 returns : tie.Need-returns Inv-loop μ-loop
 returns c =
     let e : c .before .loop .s ≡ length (c .before .before .before .before .before .before .args .sections .now) / 4 = omega arith in

@@ -1,22 +1,16 @@
 use borrow.Author.Tests.{le-leb, lt-leb, le-ltb, lt-ltb}
 use Rattle.dispatch.proofs.choice.is_candidate.Statement.{statement}
 use Rattle.dispatch.proofs.choice.is_candidate.Tie as tie
-use Rattle.dispatch.proofs.choice.is_candidate.Reads as reads
-use Rattle.dispatch.proofs.choice.is_candidate.Lts as lts
 
--- src/choice.rt:74:9
 returns : tie.Need-returns
 returns c = rw (lt-leb _ _ (c .if1 .taken))
 
--- src/choice.rt:77:9
 returns-2 : tie.Need-returns-2
 returns-2 c = rw (le-leb _ _ (c .before .if1 .left), le-ltb _ _ (c .if2 .taken))
 
--- src/choice.rt:80:9
 returns-3 : tie.Need-returns-3
 returns-3 c = rw (le-leb _ _ (c .before .before .if1 .left), lt-ltb _ _ (c .before .if2 .left), c .if3 .taken)
 
--- src/choice.rt:68:1
 returns-4 : tie.Need-returns-4
 returns-4 c = rw (le-leb _ _ (c .before .before .if1 .left), lt-ltb _ _ (c .before .if2 .left), c .if3 .left)
 

@@ -1,21 +1,15 @@
-use Rattle.dispatch.specs.Lists.{plan, clearOf, SectionsFit}
+use Rattle.dispatch.specs.Lists.{plan, clearOf}
 use Rattle.laws.specs.Rows.{all-next, all-not, all-end}
 use Rattle.rules.specs.Rows.{all}
-use mathlib.Core.Path.{_≡_, refl, sym, _∙_, ap}
-use mathlib.Core.Bool.{Bool, true, false, not, _&&_, _||_}
-use mathlib.Core.Logic.{⊎-elim}
-use mathlib.Core.Option.{Option, none, some}
+use mathlib.Core.Path.{_≡_, refl, sym, _∙_}
+use mathlib.Core.Bool.{true}
 use mathlib.Core.List.{[]}
-use Prim.Native.Nat.{ℕ, _+_, _*_, _/_, _-_, _≤_, _<_}
+use Prim.Native.Nat.{_-_, _≤_}
 use native.Mathlib.Omega.{arith}
-use lib.ListN.{length, getD, set, take, drop}
-use borrow.Author.Tests.{not-true, not-false, le-leb, lt-leb, le-ltb, lt-ltb, eq-eqb, ne-eqb}
+use borrow.Author.Tests.{not-true, not-false}
 use borrow.Author.Needs.{needs}
 use Rattle.dispatch.proofs.choice.may_start.Statement.{statement}
 use Rattle.dispatch.proofs.choice.may_start.Tie as tie
-use Rattle.dispatch.proofs.choice.may_start.Reads as reads
-use Rattle.dispatch.proofs.choice.may_start.Lts as lts
-use Rattle.dispatch.proofs.choice.clears.Reads as clears-reads
 
 abbrev Inv-loop : tie.InvT-loop
 Inv-loop span sections times units many s₀ s = (s ≤ many) × (all (clearOf (plan [] [] sections times) (span .0) units) s ≡ true)
@@ -23,32 +17,25 @@ Inv-loop span sections times units many s₀ s = (s ≤ many) × (all (clearOf (
 abbrev μ-loop : tie.MeasureT-loop
 μ-loop span sections times units many s₀ s = many - s
 
--- src/choice.rt:195:5
 loop-holds : tie.Need-loop-holds Inv-loop μ-loop
 unfolding all
 loop-holds c = (omega arith, refl)
 
--- src/choice.rt:196:13
 clears-requires : tie.Need-clears-requires Inv-loop μ-loop
 clears-requires c κs = search needs
 
--- src/choice.rt:197:13
 returns : tie.Need-returns Inv-loop μ-loop
 returns c = sym (all-not _ _ (c .before .before .before .loop .s) (omega arith) (sym (c .before .clears .ensures) ∙ not-true _ (c .if1 .taken)))
 
--- src/choice.rt:199:9
 add-s : tie.Need-add-s Inv-loop μ-loop
 add-s c = search needs
 
--- src/choice.rt:195:5
 loop-less : tie.Need-loop-less Inv-loop μ-loop
 loop-less c = search needs
 
--- src/choice.rt:195:5
 loop-again : tie.Need-loop-again Inv-loop μ-loop
 loop-again c = (omega arith, all-next _ _ (c .before .before .before .loop .inv .1) (sym (c .before .clears .ensures) ∙ not-false _ (c .if1 .left)))
 
--- src/choice.rt:187:1
 returns-2 : tie.Need-returns-2 Inv-loop μ-loop
 returns-2 c = sym (all-end _ _ _ (omega arith) (c .before .loop .inv .1))
 

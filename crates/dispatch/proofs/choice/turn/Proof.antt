@@ -2,19 +2,14 @@ use mathlib.Core.Bool.{true}
 use native.Mathlib.Omega.{arith}
 use lib.ListN.{length}
 use Prim.Native.Nat.{_<_}
-use Rattle.dispatch.specs.Lists.{timed, at, asOption, Within, candidate}
+use Rattle.dispatch.specs.Lists.{timed, at, candidate}
 use Rattle.laws.specs.First.{better-is, kept, opened, passed, stayed}
 use Rattle.rules.specs.Order.{comesBefore}
 use borrow.Author.Tests.{not-true, not-false}
-use mathlib.Core.Path.{_≡_, sym, _∙_, ap}
+use mathlib.Core.Path.{_≡_, sym, _∙_}
 use borrow.Author.Needs.{needs}
 use Rattle.dispatch.proofs.choice.turn.Statement.{statement}
 use Rattle.dispatch.proofs.choice.turn.Tie as tie
-use Rattle.dispatch.proofs.choice.turn.Reads as reads
-use Rattle.dispatch.proofs.choice.turn.Lts as lts
-use Rattle.dispatch.proofs.choice.comes_before.Reads as comes-before-reads
-use Rattle.dispatch.proofs.choice.is_candidate.Reads as is-candidate-reads
-use Rattle.dispatch.proofs.choice.release_of.Reads as release-of-reads
 
 -- the test that the code made is the definition's
 tested : (c : tie.After-is-candidate) →
@@ -35,73 +30,60 @@ known : (c : tie.After-best) → let a = c .before .before .before .before .befo
 known c =
     rw (c .best .given .1) at (c .before .before .before .before .before .before .before .before .before .before .pre .2)
 
--- src/choice.rt:93:22
 release-of-requires : tie.Need-release-of-requires
 release-of-requires c κs = search needs
 
--- src/choice.rt:93:50
 mul-is-candidate : tie.Need-mul-is-candidate
 mul-is-candidate c = search needs
 
--- src/choice.rt:93:50
 shared-slice-read-is-candidate : tie.Need-shared-slice-read-is-candidate
 shared-slice-read-is-candidate c = search needs
 
--- src/choice.rt:93:68
 mul-is-candidate-2 : tie.Need-mul-is-candidate-2
 mul-is-candidate-2 c = search needs
 
--- src/choice.rt:93:68
 add-is-candidate : tie.Need-add-is-candidate
 add-is-candidate c = search needs
 
--- src/choice.rt:93:63
 mul-is-candidate-3 : tie.Need-mul-is-candidate-3
 mul-is-candidate-3 c = search needs
 
--- src/choice.rt:93:63
 shared-slice-read-is-candidate-2 : tie.Need-shared-slice-read-is-candidate-2
 shared-slice-read-is-candidate-2 c = search needs
 
--- src/choice.rt:93:9
 is-candidate-requires : tie.Need-is-candidate-requires
 is-candidate-requires c κs = search needs
 
--- src/choice.rt:94:9
 returns : tie.Need-returns
 returns c = (search needs, rw (sym (tested (c .before)) ∙ not-true _ (c .if1 .taken)) (sym (better-is kept)))
 
--- src/choice.rt:97:27
 enum-told : tie.Need-enum-told
 enum-told c = search needs
 
--- src/choice.rt:98:19
 enum-known-best : tie.Need-enum-known-best
 enum-known-best c = search needs
 
--- src/choice.rt:99:16
 comes-before-requires : tie.Need-comes-before-requires
 comes-before-requires c κs = let k = known (c .before) in omega arith
 
--- src/choice.rt:86:1
 returns-2 : tie.Need-returns-2
 returns-2 c = (search needs, rw (passing (c .before .before), c .enum-told .given .1) (sym (better-is opened)))
 
--- src/choice.rt:86:1
 returns-3 : tie.Need-returns-3
 unfolding comesBefore
 returns-3 c =
-    let b = c .before .before .before in
-    (search needs,
-    rw (passing (b .before .before), b .best .given .1) (sym (better-is (passed (sym (c .before .comes-before .ensures) ∙ c .if2 .taken)))))
+    let b = c .before .before .before in (
+      search needs,
+      rw (passing (b .before .before), b .best .given .1) (sym (better-is (passed (sym (c .before .comes-before .ensures) ∙ c .if2 .taken)))),
+    )
 
--- src/choice.rt:86:1
 returns-4 : tie.Need-returns-4
 unfolding comesBefore
 returns-4 c =
-    let b = c .before .before .before in
-    (known b,
-    rw (passing (b .before .before), b .best .given .1) (sym (better-is (stayed (sym (c .before .comes-before .ensures) ∙ c .if2 .left)))))
+    let b = c .before .before .before in (
+      known b,
+      rw (passing (b .before .before), b .best .given .1) (sym (better-is (stayed (sym (c .before .comes-before .ensures) ∙ c .if2 .left)))),
+    )
 
 pub turn-spec : {M : Type 1} → statement M
 turn-spec =

@@ -1,17 +1,11 @@
 use Rattle.dispatch.specs.Ends.{Cleared, clear-start, clear-more, clear-end}
-use mathlib.Core.Path.{_≡_, refl, sym, _∙_, ap}
-use mathlib.Core.Bool.{Bool, true, false, not, _&&_, _||_}
-use mathlib.Core.Logic.{⊎-elim}
-use mathlib.Core.Option.{Option, none, some}
-use Prim.Native.Nat.{ℕ, _+_, _*_, _/_, _-_, _≤_, _<_}
+use mathlib.Core.Path.{_≡_}
+use Prim.Native.Nat.{_-_, _≤_}
 use native.Mathlib.Omega.{arith}
-use lib.ListN.{length, getD, set, take, drop}
-use borrow.Author.Tests.{not-true, not-false, le-leb, lt-leb, le-ltb, lt-ltb, eq-eqb, ne-eqb}
+use lib.ListN.{length}
 use borrow.Author.Needs.{needs}
 use Rattle.dispatch.proofs.ends.clear.Statement.{statement}
 use Rattle.dispatch.proofs.ends.clear.Tie as tie
-use Rattle.dispatch.proofs.ends.clear.Reads as reads
-use Rattle.dispatch.proofs.ends.clear.Lts as lts
 
 abbrev Inv-loop : tie.InvT-loop
 Inv-loop list₀ n i₀ list i = (i ≤ n) × (n ≤ length list₀) × Cleared list₀ i list
@@ -19,37 +13,29 @@ Inv-loop list₀ n i₀ list i = (i ≤ n) × (n ≤ length list₀) × Cleared 
 abbrev μ-loop : tie.MeasureT-loop
 μ-loop list₀ n i₀ list i = n - i
 
--- src/ends.rt:19:5
 loop-holds : tie.Need-loop-holds Inv-loop μ-loop
 loop-holds c = (omega arith, omega arith, clear-start _)
 
--- src/ends.rt:20:9
 mul-list : tie.Need-mul-list Inv-loop μ-loop
 mul-list c = search needs
 
--- src/ends.rt:20:9
 slice-write-list : tie.Need-slice-write-list Inv-loop μ-loop
 slice-write-list c = search needs
 
--- src/ends.rt:21:9
 add-i : tie.Need-add-i Inv-loop μ-loop
 add-i c = search needs
 
--- src/ends.rt:19:5
 loop-less : tie.Need-loop-less Inv-loop μ-loop
 loop-less c = search needs
 
--- src/ends.rt:19:5
 loop-again : tie.Need-loop-again Inv-loop μ-loop
 loop-again c =
     let v = c .before .loop .inv in
     (omega arith, omega arith, clear-more (v .2) (omega (arith, v .2 .same)))
 
--- src/ends.rt:14:1
 same-length : tie.Need-same-length Inv-loop μ-loop
 same-length c = search needs
 
--- src/ends.rt:14:1
 returns : tie.Need-returns Inv-loop μ-loop
 returns c =
     let e : c .before .loop .i ≡ c .before .before .args .n = omega arith in

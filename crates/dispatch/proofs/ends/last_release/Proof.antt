@@ -3,19 +3,14 @@ use Rattle.dispatch.specs.Lists.{timed}
 use Rattle.rules.specs.Table.{modifiedRelease}
 use Rattle.rules.specs.Rows.{largest}
 use mathlib.Core.List.{[]}
-use mathlib.Core.Path.{_≡_, refl, sym, _∙_, ap}
-use mathlib.Core.Bool.{Bool, true, false, not, _&&_, _||_}
+use mathlib.Core.Path.{_≡_, refl}
+use mathlib.Core.Bool.{true}
 use mathlib.Core.Logic.{⊎-elim}
-use mathlib.Core.Option.{Option, none, some}
-use Prim.Native.Nat.{ℕ, _+_, _*_, _/_, _-_, _≤_, _<_}
+use Prim.Native.Nat.{_-_, _≤_}
 use native.Mathlib.Omega.{arith}
-use lib.ListN.{length, getD, set, take, drop}
-use borrow.Author.Tests.{not-true, not-false, le-leb, lt-leb, le-ltb, lt-ltb, eq-eqb, ne-eqb}
 use borrow.Author.Needs.{needs}
 use Rattle.dispatch.proofs.ends.last_release.Statement.{statement}
 use Rattle.dispatch.proofs.ends.last_release.Tie as tie
-use Rattle.dispatch.proofs.ends.last_release.Reads as reads
-use Rattle.dispatch.proofs.ends.last_release.Lts as lts
 
 abbrev Inv-loop : tie.InvT-loop
 Inv-loop times n last₀ j₀ last j = (j ≤ n) × (last ≤ 1000000) × (last ≡ largest (λ k. true) (modifiedRelease (timed [] times)) 0 j)
@@ -23,44 +18,34 @@ Inv-loop times n last₀ j₀ last j = (j ≤ n) × (last ≤ 1000000) × (last 
 abbrev μ-loop : tie.MeasureT-loop
 μ-loop times n last₀ j₀ last j = n - j
 
--- src/ends.rt:40:5
 loop-holds : tie.Need-loop-holds Inv-loop μ-loop
 unfolding largest
 loop-holds c = (omega arith, omega arith, refl)
 
--- src/ends.rt:41:25
 mul-if1 : tie.Need-mul-if1 Inv-loop μ-loop
 mul-if1 c = search needs
 
--- src/ends.rt:41:19
 mul-if1-2 : tie.Need-mul-if1-2 Inv-loop μ-loop
 mul-if1-2 c = search needs
 
--- src/ends.rt:41:19
 shared-slice-read-if1 : tie.Need-shared-slice-read-if1 Inv-loop μ-loop
 shared-slice-read-if1 c = search needs
 
--- src/ends.rt:42:26
 mul-last : tie.Need-mul-last Inv-loop μ-loop
 mul-last c = search needs
 
--- src/ends.rt:42:20
 mul-last-2 : tie.Need-mul-last-2 Inv-loop μ-loop
 mul-last-2 c = search needs
 
--- src/ends.rt:42:20
 shared-slice-read-last : tie.Need-shared-slice-read-last Inv-loop μ-loop
 shared-slice-read-last c = search needs
 
--- src/ends.rt:44:9
 add-j : tie.Need-add-j Inv-loop μ-loop
 add-j c = search needs
 
--- src/ends.rt:40:5
 loop-less : tie.Need-loop-less Inv-loop μ-loop
 loop-less c = search needs
 
--- src/ends.rt:40:5
 loop-again : tie.Need-loop-again Inv-loop μ-loop
 loop-again c =
     let l = c .before .before .before in
@@ -71,7 +56,6 @@ loop-again c =
     (λ w. (omega arith, omega (arith, w), rw largest-more (omega (arith, w, l .loop .inv .2))))
     (c .if1 .came)
 
--- src/ends.rt:34:1
 returns : tie.Need-returns Inv-loop μ-loop
 returns c =
     let e : c .before .loop .j ≡ c .before .before .args .n = omega arith in

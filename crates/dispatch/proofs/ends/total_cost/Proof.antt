@@ -3,19 +3,13 @@ use Rattle.laws.specs.Rows.{sum-more}
 use Rattle.rules.specs.Table.{cost}
 use Rattle.rules.specs.Rows.{sum}
 use mathlib.Core.List.{[]}
-use mathlib.Core.Path.{_≡_, refl, sym, _∙_, ap}
-use mathlib.Core.Bool.{Bool, true, false, not, _&&_, _||_}
-use mathlib.Core.Logic.{⊎-elim}
-use mathlib.Core.Option.{Option, none, some}
-use Prim.Native.Nat.{ℕ, _+_, _*_, _/_, _-_, _≤_, _<_}
+use mathlib.Core.Path.{_≡_, refl}
+use Prim.Native.Nat.{_+_, _*_, _-_, _≤_}
 use native.Mathlib.Omega.{arith}
-use lib.ListN.{length, getD, set, take, drop}
-use borrow.Author.Tests.{not-true, not-false, le-leb, lt-leb, le-ltb, lt-ltb, eq-eqb, ne-eqb}
+use lib.ListN.{getD}
 use borrow.Author.Needs.{needs}
 use Rattle.dispatch.proofs.ends.total_cost.Statement.{statement}
 use Rattle.dispatch.proofs.ends.total_cost.Tie as tie
-use Rattle.dispatch.proofs.ends.total_cost.Reads as reads
-use Rattle.dispatch.proofs.ends.total_cost.Lts as lts
 
 abbrev Inv-loop : tie.InvT-loop
 Inv-loop jobs n total₀ j₀ total j = (j ≤ n) × (n ≤ 64) × (total ≤ j * 100000) × (total ≡ sum (cost (timed jobs [] .table)) j)
@@ -27,46 +21,36 @@ abbrev μ-loop : tie.MeasureT-loop
 priced : (c : tie.In-loop Inv-loop μ-loop) → getD (c .before .before .args .jobs .now) (3 * c .before .loop .j + 1) 0 ≤ 100000
 priced c = c .before .before .pre .2 (c .before .loop .j) (omega arith)
 
--- src/ends.rt:56:5
 loop-holds : tie.Need-loop-holds Inv-loop μ-loop
 unfolding sum
 loop-holds c = (omega arith, omega arith, omega arith, refl)
 
--- src/ends.rt:57:23
 mul-total : tie.Need-mul-total Inv-loop μ-loop
 mul-total c = search needs
 
--- src/ends.rt:57:23
 add-total : tie.Need-add-total Inv-loop μ-loop
 add-total c = search needs
 
--- src/ends.rt:57:18
 mul-total-2 : tie.Need-mul-total-2 Inv-loop μ-loop
 mul-total-2 c = search needs
 
--- src/ends.rt:57:18
 shared-slice-read-total : tie.Need-shared-slice-read-total Inv-loop μ-loop
 shared-slice-read-total c = search needs
 
--- src/ends.rt:57:9
 add-total-2 : tie.Need-add-total-2 Inv-loop μ-loop
 add-total-2 c = omega (arith, priced (c .before))
 
--- src/ends.rt:58:9
 add-j : tie.Need-add-j Inv-loop μ-loop
 add-j c = search needs
 
--- src/ends.rt:56:5
 loop-less : tie.Need-loop-less Inv-loop μ-loop
 loop-less c = search needs
 
--- src/ends.rt:56:5
 loop-again : tie.Need-loop-again Inv-loop μ-loop
 loop-again c =
     let h = priced (c .before) in
     (omega arith, omega arith, omega arith, rw sum-more (omega (arith, c .before .before .loop .inv .3)))
 
--- src/ends.rt:50:1
 returns : tie.Need-returns Inv-loop μ-loop
 returns c =
     let e : c .before .loop .j ≡ c .before .before .args .n = omega arith in

@@ -3,19 +3,15 @@ use Rattle.laws.specs.Rows.{all-next, all-not, all-end}
 use Rattle.rules.specs.Refusals.{finished, allFinished}
 use Rattle.rules.specs.Rows.{all}
 use mathlib.Core.List.{[]}
-use mathlib.Core.Path.{_≡_, refl, sym, _∙_, ap}
-use mathlib.Core.Bool.{Bool, true, false, not, _&&_, _||_}
-use mathlib.Core.Logic.{⊎-elim}
-use mathlib.Core.Option.{Option, none, some}
-use Prim.Native.Nat.{ℕ, _+_, _*_, _/_, _-_, _≤_, _<_}
+use mathlib.Core.Path.{_≡_, refl, sym}
+use mathlib.Core.Bool.{true}
+use Prim.Native.Nat.{_/_, _-_, _≤_}
 use native.Mathlib.Omega.{arith}
-use lib.ListN.{length, getD, set, take, drop}
-use borrow.Author.Tests.{not-true, not-false, le-leb, lt-leb, le-ltb, lt-ltb, eq-eqb, ne-eqb}
+use lib.ListN.{length}
+use borrow.Author.Tests.{eq-eqb, ne-eqb}
 use borrow.Author.Needs.{needs}
 use Rattle.dispatch.proofs.tick.all_finished.Statement.{statement}
 use Rattle.dispatch.proofs.tick.all_finished.Tie as tie
-use Rattle.dispatch.proofs.tick.all_finished.Reads as reads
-use Rattle.dispatch.proofs.tick.all_finished.Lts as lts
 
 abbrev Inv-loop : tie.InvT-loop
 Inv-loop jobs executed n j₀ j = (j ≤ n) × (all (finished (timed jobs []) (at 0 executed)) j ≡ true)
@@ -23,55 +19,43 @@ Inv-loop jobs executed n j₀ j = (j ≤ n) × (all (finished (timed jobs []) (a
 abbrev μ-loop : tie.MeasureT-loop
 μ-loop jobs executed n j₀ j = n - j
 
--- src/tick.rt:99:5
 loop-holds : tie.Need-loop-holds Inv-loop μ-loop
 unfolding all
 loop-holds c = (omega arith, refl)
 
--- src/tick.rt:100:12
 mul-if1 : tie.Need-mul-if1 Inv-loop μ-loop
 mul-if1 c = search needs
 
--- src/tick.rt:100:12
 shared-slice-read-if1 : tie.Need-shared-slice-read-if1 Inv-loop μ-loop
 shared-slice-read-if1 c = search needs
 
--- src/tick.rt:100:32
 mul-if1-2 : tie.Need-mul-if1-2 Inv-loop μ-loop
 mul-if1-2 c = search needs
 
--- src/tick.rt:100:32
 add-if1 : tie.Need-add-if1 Inv-loop μ-loop
 add-if1 c = search needs
 
--- src/tick.rt:100:27
 mul-if1-3 : tie.Need-mul-if1-3 Inv-loop μ-loop
 mul-if1-3 c = search needs
 
--- src/tick.rt:100:27
 shared-slice-read-if1-2 : tie.Need-shared-slice-read-if1-2 Inv-loop μ-loop
 shared-slice-read-if1-2 c = search needs
 
--- src/tick.rt:101:13
 returns : tie.Need-returns Inv-loop μ-loop
 unfolding allFinished
 returns c =
     let a = c .before .before .before .before .before .args in
     sym (all-not (finished (timed (a .jobs .now) []) (at 0 (a .executed .now))) (length (a .jobs .now) / 3) (c .before .before .before .before .loop .j) (omega arith) (ne-eqb _ _ (c .if1 .taken)))
 
--- src/tick.rt:103:9
 add-j : tie.Need-add-j Inv-loop μ-loop
 add-j c = search needs
 
--- src/tick.rt:99:5
 loop-less : tie.Need-loop-less Inv-loop μ-loop
 loop-less c = search needs
 
--- src/tick.rt:99:5
 loop-again : tie.Need-loop-again Inv-loop μ-loop
 loop-again c = (omega arith, all-next _ _ (c .before .before .before .before .loop .inv .1) (eq-eqb _ _ (c .if1 .left)))
 
--- src/tick.rt:93:1
 returns-2 : tie.Need-returns-2 Inv-loop μ-loop
 unfolding allFinished
 returns-2 c =

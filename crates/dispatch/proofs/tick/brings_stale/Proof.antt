@@ -1,68 +1,48 @@
 use Rattle.dispatch.specs.Marks.{bringsStale}
-use mathlib.Core.Path.{_≡_, refl, sym, _∙_, ap}
-use mathlib.Core.Bool.{Bool, true, false, not, _&&_, _||_}
-use mathlib.Core.Logic.{⊎-elim}
-use mathlib.Core.Option.{Option, none, some}
-use Prim.Native.Nat.{ℕ, _+_, _*_, _/_, _-_, _≤_, _<_}
+use Prim.Native.Nat.{_+_, _*_}
 use native.Mathlib.Omega.{arith}
-use lib.ListN.{length, getD, set, take, drop}
-use borrow.Author.Tests.{not-true, not-false, le-leb, lt-leb, le-ltb, lt-ltb, eq-eqb, ne-eqb}
+use borrow.Author.Tests.{eq-eqb, ne-eqb}
 use borrow.Author.Needs.{needs}
 use Rattle.dispatch.proofs.tick.brings_stale.Statement.{statement}
 use Rattle.dispatch.proofs.tick.brings_stale.Tie as tie
-use Rattle.dispatch.proofs.tick.brings_stale.Reads as reads
-use Rattle.dispatch.proofs.tick.brings_stale.Lts as lts
 
--- src/tick.rt:22:13
 mul-if1 : tie.Need-mul-if1
 mul-if1 c = search needs
 
--- src/tick.rt:22:13
 add-if1 : tie.Need-add-if1
 add-if1 c = search needs
 
--- src/tick.rt:22:8
 mul-if1-2 : tie.Need-mul-if1-2
 mul-if1-2 c = search needs
 
--- src/tick.rt:22:8
 shared-slice-read-if1 : tie.Need-shared-slice-read-if1
 shared-slice-read-if1 c = search needs
 
--- src/tick.rt:22:8
 cast-if1 : tie.Need-cast-if1
 cast-if1 c = omega (arith, c .shared-slice-known .given (2 * c .before .args .a + 1))
 
--- src/tick.rt:23:9
 returns : tie.Need-returns
 unfolding bringsStale
 returns c = rw (ne-eqb _ _ (c .if1 .taken))
 
--- src/tick.rt:25:21
 mul-from : tie.Need-mul-from
 mul-from c = search needs
 
--- src/tick.rt:25:16
 mul-from-2 : tie.Need-mul-from-2
 mul-from-2 c = search needs
 
--- src/tick.rt:25:16
 shared-slice-read-from : tie.Need-shared-slice-read-from
 shared-slice-read-from c = search needs
 
--- src/tick.rt:25:16
 cast-from : tie.Need-cast-from
 cast-from c = omega (arith, c .shared-slice-known2 .given (2 * c .before .before .before .args .a))
 
--- src/tick.rt:26:5
 mul-result : tie.Need-mul-result
 mul-result c = let h = c .before .before .before .pre .0 .inside (c .before .before .before .args .a) (omega arith) in omega arith
 
--- src/tick.rt:26:5
 shared-slice-read-result : tie.Need-shared-slice-read-result
 shared-slice-read-result c = c .before .before .before .before .pre .0 .inside (c .before .before .before .before .args .a) (omega arith) .0
 
--- src/tick.rt:18:1
 returns-2 : tie.Need-returns-2
 unfolding bringsStale
 returns-2 c = rw (eq-eqb _ _ (c .before .before .if1 .left))

@@ -1,102 +1,73 @@
 use Rattle.dispatch.specs.Marks.{tick-ends, tick-goes-on}
-use mathlib.Core.Path.{_≡_, refl, sym, _∙_, ap}
-use mathlib.Core.Bool.{Bool, true, false, not, _&&_, _||_}
-use mathlib.Core.Logic.{⊎-elim}
-use mathlib.Core.Option.{Option, none, some}
-use Prim.Native.Nat.{ℕ, _+_, _*_, _/_, _-_, _≤_, _<_}
+use mathlib.Core.Path.{refl}
+use Prim.Native.Nat.{_+_, _*_}
 use native.Mathlib.Omega.{arith}
-use lib.ListN.{length, getD, set, take, drop}
-use borrow.Author.Tests.{not-true, not-false, le-leb, lt-leb, le-ltb, lt-ltb, eq-eqb, ne-eqb}
 use borrow.Author.Needs.{needs}
 use Rattle.dispatch.proofs.tick.give_tick.Statement.{statement}
 use Rattle.dispatch.proofs.tick.give_tick.Tie as tie
-use Rattle.dispatch.proofs.tick.give_tick.Reads as reads
-use Rattle.dispatch.proofs.tick.give_tick.Lts as lts
-use Rattle.dispatch.proofs.tick.mark_at_end.Reads as mark-at-end-reads
 
--- src/tick.rt:68:16
 mul-done : tie.Need-mul-done
 mul-done c = search needs
 
--- src/tick.rt:68:16
 slice-read-done : tie.Need-slice-read-done
 slice-read-done c = search needs
 
--- src/tick.rt:68:16
 add-done : tie.Need-add-done
 add-done c =
     let a = c .before .before .before .before .before .before .args in
     let h = c .before .before .before .before .before .shared-slice-known .given (3 * a .job + 1) in omega arith
 
--- src/tick.rt:69:5
 mul-executed : tie.Need-mul-executed
 mul-executed c = search needs
 
--- src/tick.rt:69:5
 slice-write-executed : tie.Need-slice-write-executed
 slice-write-executed c = search needs
 
--- src/tick.rt:70:21
 mul-if1 : tie.Need-mul-if1
 mul-if1 c = search needs
 
--- src/tick.rt:70:21
 add-if1 : tie.Need-add-if1
 add-if1 c = search needs
 
--- src/tick.rt:70:16
 mul-if1-2 : tie.Need-mul-if1-2
 mul-if1-2 c = search needs
 
--- src/tick.rt:70:16
 shared-slice-read-if1 : tie.Need-shared-slice-read-if1
 shared-slice-read-if1 c = search needs
 
--- src/tick.rt:71:22
 mark-at-end-requires : tie.Need-mark-at-end-requires
 mark-at-end-requires c κs = search needs
 
--- src/tick.rt:71:9
 mul-marks : tie.Need-mul-marks
 mul-marks c = search needs
 
--- src/tick.rt:71:9
 slice-write-marks : tie.Need-slice-write-marks
 slice-write-marks c = search needs
 
--- src/tick.rt:72:23
 add-finish : tie.Need-add-finish
 add-finish c = search needs
 
--- src/tick.rt:72:9
 mul-finish : tie.Need-mul-finish
 mul-finish c = search needs
 
--- src/tick.rt:72:9
 slice-write-finish : tie.Need-slice-write-finish
 slice-write-finish c = search needs
 
--- src/tick.rt:60:1
 same-length : tie.Need-same-length
 same-length c = search needs
 
--- src/tick.rt:60:1
 same-length-2 : tie.Need-same-length-2
 same-length-2 c = search needs
 
--- src/tick.rt:60:1
 same-length-3 : tie.Need-same-length-3
 same-length-3 c = search needs
 
--- src/tick.rt:60:1
 returns : tie.Need-returns
 returns c = tick-ends _ _ _ _ _ _ _ _ _ (omega arith) _ (c .before .before .if1 .taken) (c .mark-at-end .ensures)
 
--- src/tick.rt:60:1
 same-length-4 : tie.Need-same-length-4
 same-length-4 c = search needs
 
--- src/tick.rt:60:1
 returns-2 : tie.Need-returns-2
 returns-2 c = tick-goes-on _ _ _ _ _ _ _ _ _ refl (c .if1 .left)
 

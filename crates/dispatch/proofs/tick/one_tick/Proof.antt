@@ -1,25 +1,17 @@
 use Rattle.dispatch.specs.Choice.{chosen-same, tick-idle, tick-runs}
 use Rattle.dispatch.specs.Choice.{chosen-pending}
-use Rattle.dispatch.specs.Lists.{plan, state, at, asOption, Within, within-at, Same, Fit, Ticked}
+use Rattle.dispatch.specs.Lists.{plan, state, at, asOption, within-at}
 use Rattle.laws.specs.Tests.{le-says, lt-says, says-and, yes-says}
 use Rattle.rules.specs.Tick.{pending, chosen, tick, advance}
 use Rattle.rules.specs.Table.{Plan, State}
-use mathlib.Core.List.{[]}
-use mathlib.Core.Path.{_≡_, refl, sym, _∙_, ap}
-use mathlib.Core.Bool.{Bool, true, false, not, _&&_, _||_}
-use mathlib.Core.Logic.{⊎-elim}
-use mathlib.Core.Option.{Option, none, some}
-use Prim.Native.Nat.{ℕ, _+_, _*_, _/_, _-_, _≤_, _<_}
+use mathlib.Core.Path.{_≡_, sym, _∙_, ap}
+use mathlib.Core.Option.{none, some}
+use Prim.Native.Nat.{ℕ, _+_, _*_, _<_}
 use native.Mathlib.Omega.{arith}
-use lib.ListN.{length, getD, set, take, drop}
-use borrow.Author.Tests.{not-true, not-false, le-leb, lt-leb, le-ltb, lt-ltb, eq-eqb, ne-eqb}
+use lib.ListN.{length, getD}
 use borrow.Author.Needs.{needs}
 use Rattle.dispatch.proofs.tick.one_tick.Statement.{statement}
 use Rattle.dispatch.proofs.tick.one_tick.Tie as tie
-use Rattle.dispatch.proofs.tick.one_tick.Reads as reads
-use Rattle.dispatch.proofs.tick.one_tick.Lts as lts
-use Rattle.dispatch.proofs.choice.choose.Reads as choose-reads
-use Rattle.dispatch.proofs.tick.give_tick.Reads as give-tick-reads
 
 abbrev begin : tie.After-choose → tie.Start
 begin c = c .before .before .before .before .before .before .before .before .before
@@ -54,18 +46,15 @@ unfinished c =
     (chosen-pending (P (begin (made c))) (S (begin (made c))) (job c) (runs c))
     .1
 
--- src/tick.rt:84:9
 choose-requires : tie.Need-choose-requires
 choose-requires c κs = search needs
 
 enum-told : tie.Need-enum-told
 enum-told c = search needs
 
--- src/tick.rt:87:19
 enum-known-ran : tie.Need-enum-known-ran
 enum-known-ran c = search needs
 
--- src/tick.rt:87:27
 give-tick-requires : tie.Need-give-tick-requires
 give-tick-requires c κs =
     let r = c .before .before .before .before in
@@ -73,30 +62,24 @@ give-tick-requires c κs =
     let f = b .pre .0 in
     ((f .lists, rw (f .lists .marked) (f .arcs-fit), in-table r), (unfinished r, omega arith))
 
--- src/tick.rt:76:1
 same-length : tie.Need-same-length
 same-length c = search needs
 
--- src/tick.rt:76:1
 returns : tie.Need-returns
 returns c =
     let m = c .before .before in
     let e : chosen (P (begin m)) (S (begin m)) ≡ none = sym (choice m) ∙ ap asOption (c .enum-told .given .1) in
     (m .choose .ensures .0, record { who = choice m; becomes = tick-idle _ _ _ e })
 
--- src/tick.rt:76:1
 same-length-2 : tie.Need-same-length-2
 same-length-2 c = search needs
 
--- src/tick.rt:76:1
 same-length-3 : tie.Need-same-length-3
 same-length-3 c = search needs
 
--- src/tick.rt:76:1
 same-length-4 : tie.Need-same-length-4
 same-length-4 c = search needs
 
--- src/tick.rt:76:1
 returns-2 : tie.Need-returns-2
 unfolding advance
 returns-2 c =

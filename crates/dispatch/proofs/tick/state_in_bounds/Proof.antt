@@ -1,55 +1,39 @@
 use Rattle.rules.specs.Refusals.{jobStateRight, stateInBounds}
-use Rattle.rules.specs.Rows.{all}
-use mathlib.Core.Path.{_≡_, refl, sym, _∙_, ap}
-use mathlib.Core.Bool.{Bool, true, false, not, _&&_, _||_}
-use mathlib.Core.Logic.{⊎-elim}
-use mathlib.Core.Option.{Option, none, some}
-use Prim.Native.Nat.{ℕ, _+_, _*_, _/_, _-_, _≤_, _<_}
 use native.Mathlib.Omega.{arith}
-use lib.ListN.{length, getD, set, take, drop}
-use borrow.Author.Tests.{not-true, not-false, le-leb, lt-leb, le-ltb, lt-ltb, eq-eqb, ne-eqb}
-use borrow.Author.Needs.{needs}
+use borrow.Author.Tests.{le-leb, lt-leb, eq-eqb, ne-eqb}
 use Rattle.dispatch.proofs.tick.state_in_bounds.Statement.{statement}
 use Rattle.dispatch.proofs.tick.state_in_bounds.Tie as tie
-use Rattle.dispatch.proofs.tick.state_in_bounds.Reads as reads
-use Rattle.dispatch.proofs.tick.state_in_bounds.Lts as lts
-use Rattle.dispatch.proofs.tick.all_states_right.Reads as all-states-right-reads
 
--- src/tick.rt:133:9
 returns : tie.Need-returns
 unfolding stateInBounds
 returns c = rw (ne-eqb _ _ (c .if1 .taken))
 
--- src/tick.rt:136:9
 returns-2 : tie.Need-returns-2
 unfolding stateInBounds
 returns-2 c = rw (eq-eqb _ _ (c .before .if1 .left), ne-eqb _ _ (c .if2 .taken))
 
--- src/tick.rt:139:9
 returns-3 : tie.Need-returns-3
 unfolding stateInBounds
 returns-3 c = rw (eq-eqb _ _ (c .before .before .if1 .left), eq-eqb _ _ (c .before .if2 .left), ne-eqb _ _ (c .if3 .taken))
 
--- src/tick.rt:142:9
 returns-4 : tie.Need-returns-4
 unfolding stateInBounds
 returns-4 c = rw (eq-eqb _ _ (c .before .before .before .if1 .left), eq-eqb _ _ (c .before .before .if2 .left), eq-eqb _ _ (c .before .if3 .left), lt-leb _ _ (c .if4 .taken))
 
--- src/tick.rt:144:5
 all-states-right-requires : tie.Need-all-states-right-requires
 all-states-right-requires c κs = record { by-job = omega arith; marked = omega arith; finished = omega arith }
 
--- src/tick.rt:125:1
 returns-5 : tie.Need-returns-5
 unfolding stateInBounds jobStateRight
 returns-5 c =
     let e = c .before in
-    rw
-    (eq-eqb _ _ (e .before .before .before .if1 .left),
-    eq-eqb _ _ (e .before .before .if2 .left),
-    eq-eqb _ _ (e .before .if3 .left),
-    le-leb _ _ (e .if4 .left),
-    ← e .before .before .before .if1 .left)
+    rw (
+      eq-eqb _ _ (e .before .before .before .if1 .left),
+      eq-eqb _ _ (e .before .before .if2 .left),
+      eq-eqb _ _ (e .before .if3 .left),
+      le-leb _ _ (e .if4 .left),
+      ← e .before .before .before .if1 .left,
+    )
     (c .all-states-right .ensures)
 
 pub state-in-bounds-spec : {M : Type 1} → statement M
