@@ -1,0 +1,2 @@
+-- Demand 3: the theorems about the run.
+pub mod Theory
