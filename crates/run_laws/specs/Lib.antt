@@ -1,2 +1,3 @@
 -- Demand 3: the theorems about the run.
 pub mod Theory
+pub mod Marks
