@@ -1,3 +1,4 @@
 -- Demand 3: the theorems about the run.
 pub mod Theory
 pub mod Marks
+pub mod Sections

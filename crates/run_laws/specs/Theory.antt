@@ -140,6 +140,14 @@ module _ (J : Jobs) where
         go none c (stays h) = h j
         go (some x) c (moves up same) = same j (λ q. n (rw (← q) at c))
 
+    -- whose count rose was chosen
+    pub raised-chosen : {k j : ℕ} → R .e k j < R .e (suc k) j → R .pick k ≡ some j
+    raised-chosen {k} {j} l = go (R .pick k) refl (R .frame k)
+      where
+        go : (o : Option ℕ) → R .pick k ≡ o → Frame (R .e k) (R .e (suc k)) o → R .pick k ≡ some j
+        go none c (stays h) = absurd (omega (arith, h j))
+        go (some x) c (moves up same) = elim (ℕ-discrete j x) [ yes q ↦ rw q c | no q ↦ absurd (omega (arith, same j q)) ]
+
     pub grows-to : (k n j : ℕ) → k ≤ n → R .e k j ≤ R .e n j
     grows-to k zero j l = rw (let q : k ≡ 0 = omega arith in q) (omega arith)
     grows-to k (suc n) j l =
