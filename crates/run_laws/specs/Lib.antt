@@ -2,3 +2,4 @@
 pub mod Theory
 pub mod Marks
 pub mod Sections
+pub mod Waiting

@@ -126,15 +126,41 @@ module _ (Z : Sections) where
       = sum-term (λ i. cond (holdsOn of e q i) (Z .units i) 0) (Z .many) s (listed (h .holding .leaves)) in
       rw (says-yes (holds-says of e q s) h) at l
 
-  -- somebody holds q, or no unit of it is held
-  pub holders : (of : ℕ → Bool) (e : ℕ → ℕ) (q : ℕ) → ((s : ℕ) × HoldsOn of e q s) ⊎ (held of e q ≡ 0)
-  unfolding held
+  -- a section of q that jobs of a class hold, or none
+  pub holders : (of : ℕ → Bool) (e : ℕ → ℕ) (q : ℕ) → ((s : ℕ) × HoldsOn of e q s) ⊎ ((s : ℕ) → HoldsOn of e q s → ⊥)
   holders of e q = go (any-says _ _ (holdsOn of e q) (holds-says of e q) (Z .many))
     where
       go : {c : Bool} → Says ((s : ℕ) × (s < Z .many) × HoldsOn of e q s) ((s : ℕ) → s < Z .many → HoldsOn of e q s → ⊥) c
-          → ((s : ℕ) × HoldsOn of e q s) ⊎ (sum (λ s. cond (holdsOn of e q s) (Z .units s) 0) (Z .many) ≡ 0)
+          → ((s : ℕ) × HoldsOn of e q s) ⊎ ((s : ℕ) → HoldsOn of e q s → ⊥)
       go (so w) = inl (w .0, w .2)
-      go (not-so n) = inr (sum-none _ (Z .many) (λ s l. rw (no-of (holds-says of e q s) (n s l))))
+      go (not-so n) = inr (λ s h. n s (listed (h .holding .leaves)) h)
+
+  pub none-held : (of : ℕ → Bool) (e : ℕ → ℕ) (q : ℕ) → ((s : ℕ) → HoldsOn of e q s → ⊥) → held of e q ≡ 0
+  unfolding held
+  none-held of e q n = sum-none _ (Z .many) (λ s l. rw (no-of (holds-says of e q s) (n s)))
+
+-- ---- two classes of jobs
+
+module _ (J : Jobs) where
+  -- the pending jobs, and the jobs later than x in the order
+  abbrev pub pend : ℕ → (ℕ → ℕ) → ℕ → Bool
+  pend t e j = leb (J .release j) t && ltb (e j) (J .cost j)
+
+  abbrev pub after : ℕ → ℕ → Bool
+  after x j = ltb (J .key x) (J .key j)
+
+  pub pend-says : (t : ℕ) (e : ℕ → ℕ) (j : ℕ) → Says (Pending J t e j) (Pending J t e j → ⊥) (pend t e j)
+  pend-says t e j =
+      says-map
+      (λ w. record { released = w .0; unfinished = w .1 })
+      (⊎-elim (λ l h. omega (arith, h .released)) (λ l h. omega (arith, h .unfinished)))
+      (says-and (le-says (J .release j) t) (lt-says (e j) (J .cost j)))
+
+  pub after-yes : {x j : ℕ} → J .key x < J .key j → after x j ≡ true
+  after-yes {x} {j} l = says-yes (says-map (λ h. h) (λ h g. omega arith) (lt-says (J .key x) (J .key j))) l
+
+  pub after-is : {x j : ℕ} → after x j ≡ true → J .key x < J .key j
+  after-is {x} {j} e = yes-says (lt-says (J .key x) (J .key j)) e
 
 -- ---- ceilings
 
@@ -154,26 +180,6 @@ pub record Ceilings (J : Jobs) (Z : Sections) : Type 1 where
   pub levels : (i k : ℕ) → i < J .count → k < J .count → J .key i < J .key k → J .release k ≤ J .release i → span i ≤ span k
 
 module _ (J : Jobs) (Z : Sections) (C : Ceilings J Z) where
-  -- the pending jobs, and the jobs later than x in the order
-  abbrev pub pend : ℕ → (ℕ → ℕ) → ℕ → Bool
-  pend t e j = leb (J .release j) t && ltb (e j) (J .cost j)
-
-  abbrev pub after : ℕ → ℕ → Bool
-  after x j = ltb (J .key x) (J .key j)
-
-  pub pend-says : (t : ℕ) (e : ℕ → ℕ) (j : ℕ) → Says (Pending J t e j) (Pending J t e j → ⊥) (pend t e j)
-  pend-says t e j =
-      says-map
-      (λ w. record { released = w .0; unfinished = w .1 })
-      (⊎-elim (λ l h. omega (arith, h .released)) (λ l h. omega (arith, h .unfinished)))
-      (says-and (le-says (J .release j) t) (lt-says (e j) (J .cost j)))
-
-  after-yes : {x j : ℕ} → J .key x < J .key j → after x j ≡ true
-  after-yes {x} {j} l = says-yes (says-map (λ h. h) (λ h g. omega arith) (lt-says (J .key x) (J .key j))) l
-
-  after-is : {x j : ℕ} → after x j ≡ true → J .key x < J .key j
-  after-is {x} {j} e = yes-says (lt-says (J .key x) (J .key j)) e
-
   -- ---- rules 1 to 4
 
   -- the first started pending job
@@ -189,12 +195,12 @@ module _ (J : Jobs) (Z : Sections) (C : Ceilings J Z) where
     pub head : First J t e waiting
     pub unstarted : e waiting ≡ 0
     pub on : ℕ
-    pub stuck : C .clears (C .span waiting) on (held Z (pend t e) e on) → ⊥
+    pub stuck : C .clears (C .span waiting) on (held Z (pend J t e) e on) → ⊥
 
   pub data ByRules (t : ℕ) (e : ℕ → ℕ) : Option ℕ → Type 0 where
     nobody : ((j : ℕ) → Pending J t e j → ⊥) → ByRules t e none
     resumes : {x : ℕ} → First J t e x → 0 < e x → ByRules t e (some x)
-    opens : {x : ℕ} → First J t e x → e x ≡ 0 → ((q : ℕ) → C .clears (C .span x) q (held Z (pend t e) e q)) → ByRules t e (some x)
+    opens : {x : ℕ} → First J t e x → e x ≡ 0 → ((q : ℕ) → C .clears (C .span x) q (held Z (pend J t e) e q)) → ByRules t e (some x)
     detains : {x : ℕ} → Detained t e x → ByRules t e (some x)
 
   -- they are a choice of the class
@@ -211,7 +217,7 @@ module _ (J : Jobs) (Z : Sections) (C : Ceilings J Z) where
   chosen-leads (detains d) g p s n = d .lead .leads g p s n
 
   -- a chosen job that was not started has passed the test
-  passed : {t : ℕ} {e : ℕ → ℕ} {x : ℕ} → ByRules t e (some x) → e x ≡ 0 → (q : ℕ) → C .clears (C .span x) q (held Z (pend t e) e q)
+  passed : {t : ℕ} {e : ℕ → ℕ} {x : ℕ} → ByRules t e (some x) → e x ≡ 0 → (q : ℕ) → C .clears (C .span x) q (held Z (pend J t e) e q)
   passed (resumes f l) z = absurd (omega arith)
   passed (opens f _ c) z = c
   passed (detains d) z = absurd (omega (arith, d .lead .begun))
@@ -234,31 +240,31 @@ module _ (J : Jobs) (Z : Sections) (C : Ceilings J Z) where
         others-same J R (λ c. omega (arith, chosen-leads (rule-of c) x (started-pending s l) s (λ q. omega (arith, ap (J .key) q))))
 
     later-held : (k x q : ℕ) → 0 < R .e k x → R .e k x < J .cost x
-        → held Z (after x) (R .e (suc k)) q ≡ held Z (after x) (R .e k) q
+        → held Z (after J x) (R .e (suc k)) q ≡ held Z (after J x) (R .e k) q
     later-held k x q s l =
-        held-same Z (after x) (after x) (R .e (suc k)) (R .e k) q
-        (λ τ h. hold-on Z (sym (later-still s l (after-is (h .who)))) (h .who) h)
-        (λ τ h. hold-on Z (later-still s l (after-is (h .who))) (h .who) h)
+        held-same Z (after J x) (after J x) (R .e (suc k)) (R .e k) q
+        (λ τ h. hold-on Z (sym (later-still s l (after-is J (h .who)))) (h .who) h)
+        (λ τ h. hold-on Z (later-still s l (after-is J (h .who))) (h .who) h)
 
     -- when x starts, what pending jobs hold is what jobs later than x hold
     start-held : (k x q : ℕ) → R .pick k ≡ some x → R .e k x ≡ 0
-        → held Z (after x) (R .e (suc k)) q ≡ held Z (pend k (R .e k)) (R .e k) q
+        → held Z (after J x) (R .e (suc k)) q ≡ held Z (pend J k (R .e k)) (R .e k) q
     start-held k x q c z =
-        held-same Z (after x) (pend k (R .e k)) (R .e (suc k)) (R .e k) q
-        (λ τ h. (let l = after-is (h .who) in go τ (hold-on Z (sym (same τ (λ w. omega (arith, ap (J .key) w)))) (h .who) h)))
+        held-same Z (after J x) (pend J k (R .e k)) (R .e (suc k)) (R .e k) q
+        (λ τ h. (let l = after-is J (h .who) in go τ (hold-on Z (sym (same τ (λ w. omega (arith, ap (J .key) w)))) (h .who) h)))
         (λ τ h. back τ h (λ w. omega (arith, ap (R .e k) w, h .holding .entered)))
       where
         same : (τ : ℕ) → Z .owner τ ≢ x → R .e (suc k) (Z .owner τ) ≡ R .e k (Z .owner τ)
         same τ n = others-same J R (λ w. n (let y : x ≡ Z .owner τ = cc (c, w) in sym y))
 
-        go : (τ : ℕ) → HoldsOn Z (after x) (R .e k) q τ → HoldsOn Z (pend k (R .e k)) (R .e k) q τ
-        go τ h = hold-on Z refl (says-yes (pend-says k (R .e k) (Z .owner τ)) (holder-pending (h .holding))) h
+        go : (τ : ℕ) → HoldsOn Z (after J x) (R .e k) q τ → HoldsOn Z (pend J k (R .e k)) (R .e k) q τ
+        go τ h = hold-on Z refl (says-yes (pend-says J k (R .e k) (Z .owner τ)) (holder-pending (h .holding))) h
 
-        back : (τ : ℕ) → HoldsOn Z (pend k (R .e k)) (R .e k) q τ → Z .owner τ ≢ x → HoldsOn Z (after x) (R .e (suc k)) q τ
-        back τ h n = hold-on Z (same τ n) (after-yes (chosen-first J R c z .leads (Z .owner τ) (holder-pending (h .holding)) n)) h
+        back : (τ : ℕ) → HoldsOn Z (pend J k (R .e k)) (R .e k) q τ → Z .owner τ ≢ x → HoldsOn Z (after J x) (R .e (suc k)) q τ
+        back τ h n = hold-on Z (same τ n) (after-yes J (chosen-first J R c z .leads (Z .owner τ) (holder-pending (h .holding)) n)) h
 
     -- Every started unfinished job clears each resource at what jobs later than it hold.
-    pub clear : (k x : ℕ) → 0 < R .e k x → R .e k x < J .cost x → (q : ℕ) → C .clears (C .span x) q (held Z (after x) (R .e k) q)
+    pub clear : (k x : ℕ) → 0 < R .e k x → R .e k x < J .cost x → (q : ℕ) → C .clears (C .span x) q (held Z (after J x) (R .e k) q)
     clear zero x s l q = absurd (omega (arith, R .starts x))
     clear (suc k) x s l q =
         elim (decLt 0 (R .e k x)) [
@@ -289,7 +295,7 @@ module _ (J : Jobs) (Z : Sections) (C : Ceilings J Z) where
     two-hold : {k s τ : ℕ} → Z .resource τ ≡ Z .resource s → C .total (Z .resource s) < Z .units s + Z .units τ
         → J .key (Z .owner s) < J .key (Z .owner τ) → Holds Z (R .e k) s → Holds Z (R .e k) τ → ⊥
     two-hold {k} {s} {τ} r t b h g =
-        excludes (record { on = r; holding = g; who = after-yes b }) (h .leaves) t
+        excludes (record { on = r; holding = g; who = after-yes J b }) (h .leaves) t
         (clear k (Z .owner s) (omega (arith, h .entered)) (holder-pending h .unfinished) (Z .resource s))
 
     -- one runs in its section, another holds
@@ -302,13 +308,13 @@ module _ (J : Jobs) (Z : Sections) (C : Ceilings J Z) where
               (record {
                 on = r;
                 holding = g;
-                who = after-yes (chosen-leads (rule-of c) (Z .owner τ) (holder-pending g) (omega (arith, g .entered)) n);
+                who = after-yes J (chosen-leads (rule-of c) (Z .owner τ) (holder-pending g) (omega (arith, g .entered)) n);
               })
               l t
               (clear k (Z .owner s) b (chosen-pending J R c .unfinished) (Z .resource s))
           | no b ↦
               excludes
-              (record { on = r; holding = g; who = says-yes (pend-says k (R .e k) (Z .owner τ)) (holder-pending g) })
+              (record { on = r; holding = g; who = says-yes (pend-says J k (R .e k) (Z .owner τ)) (holder-pending g) })
               l t
               (passed (rule-of c) (omega arith) (Z .resource s))
         ]
