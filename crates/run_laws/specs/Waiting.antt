@@ -61,15 +61,31 @@ module _ (J : Jobs) (Z : Sections) (C : Ceilings J Z) (R : Run J) (rules : (k : 
         | no r ↦ C .levels i x (pending-in J p) l b (omega arith)
       ]
 
+  -- a section that x holds at tick k
+  record Within (k x : ℕ) : Type 0 where
+    section : ℕ
+    owns : Z .owner section ≡ x
+    entered : Z .from section < R .e k x
+    leaves : R .e k x < Z .to section
+
   -- the job that runs by rule 4 holds a section on the resource that the first pending job doesn't clear
   module _ (k x : ℕ) (d : Detained J Z C k (R .e k) x) (behind : J .key (d .waiting) < J .key x) where
     is-x : ℕ → Bool
     is-x i = eqb i x
 
-    blocker-holds : (s : ℕ) × (Z .owner s ≡ x) × Holds Z (R .e k) s
+    blocker-holds : Within k x
     unfolding is-x
-    blocker-holds = ⊎-elim (λ w. (w .0, yes-says (eq-says (Z .owner (w .0)) x) (w .1 .who), w .1 .holding)) (λ n. absurd (go n)) (holders Z is-x (R .e k) (d .on))
+    blocker-holds = ⊎-elim (λ w. found (w .0) (w .1) (yes-says (eq-says (Z .owner (w .0)) x) (w .1 .who))) (λ n. absurd (go n)) (holders Z is-x (R .e k) (d .on))
       where
+        found : (s : ℕ) → HoldsOn Z is-x (R .e k) (d .on) s → Z .owner s ≡ x → Within k x
+        found s h o =
+            record {
+              section = s;
+              owns = o;
+              entered = omega (arith, h .holding .entered, ap (R .e k) o);
+              leaves = omega (arith, h .holding .leaves, ap (R .e k) o);
+            }
+
         all-later : ((s : ℕ) → HoldsOn Z is-x (R .e k) (d .on) s → ⊥)
             → held Z (after J x) (R .e k) (d .on) ≡ held Z (pend J k (R .e k)) (R .e k) (d .on)
         all-later n =
@@ -83,3 +99,175 @@ module _ (J : Jobs) (Z : Sections) (C : Ceilings J Z) (R : Run J) (rules : (k : 
             (C .lower
             (level (d .head .ready) behind (d .lead .begun) (pending-in J (d .lead .ready)))
             (rw (all-later n) at (clear J Z C R rules k x (d .lead .begun) (d .lead .ready .unfinished) (d .on))))
+
+  -- ---- waiting
+
+  -- the tick goes to a job later than j
+  abbrev pub goesAfter : ℕ → Option ℕ → Bool
+  goesAfter j none = false
+  goesAfter j (some x) = after J j x
+
+  -- job j waits in tick k, and in how many of the ticks before b it waits
+  abbrev pub waitsAt : ℕ → ℕ → Bool
+  waitsAt j k = pend J k (R .e k) j && goesAfter j (R .pick k)
+
+  abbrev pub waitedTo : ℕ → ℕ → ℕ
+  waitedTo j b = count (waitsAt j) b
+
+  -- From tick a to tick b no tick went to a job later than j.
+  record Undisturbed (j a b : ℕ) : Type 0 where
+    quiet : (s : ℕ) → s < b → waitsAt j s ≡ false
+    still : (l : ℕ) → J .key j < J .key l → R .e b l ≡ R .e a l
+
+  -- At tick a, k is the job that may hold j up: later than j, it clears what jobs still later hold, and it comes before
+  -- every other started unfinished job that is later than j.
+  record Blocker (j a k : ℕ) : Type 0 where
+    behind : J .key j < J .key k
+    clearing : (q : ℕ) → C .clears (C .span k) q (held Z (after J k) (R .e a) q)
+    nearest : (l : ℕ) → J .key j < J .key l → l ≢ k → 0 < R .e a l → R .e a l < J .cost l → J .key k < J .key l
+
+  -- From tick a to tick b all ticks that went to jobs later than j went to one, inside a section that it held at tick a.
+  record Delayed (j a b : ℕ) : Type 0 where
+    who : ℕ
+    blocker : Blocker j a who
+    section : ℕ
+    owns : Z .owner section ≡ who
+    entered : Z .from section < R .e a who
+    inside : R .e b who ≤ Z .to section
+    number : waitedTo j b + R .e a who ≡ R .e b who
+    still : (l : ℕ) → J .key j < J .key l → l ≢ who → R .e b l ≡ R .e a l
+    all-to : (s : ℕ) → s < b → waitsAt j s ≡ true → R .pick s ≡ some who
+
+  abbrev Delay : ℕ → ℕ → ℕ → Type 0
+  Delay j a b = Undisturbed j a b ⊎ Delayed j a b
+
+  goes-says : (j : ℕ) (o : Option ℕ)
+      → Says ((x : ℕ) × (o ≡ some x) × (J .key j < J .key x)) ((x : ℕ) → o ≡ some x → J .key x ≤ J .key j) (goesAfter j o)
+  goes-says j none = not-so (λ x q. let z : _≡_ {A = ℕ} 0 1 = cc in absurd (omega arith))
+  goes-says j (some x) =
+      says-map
+      (λ l. (x, refl, l))
+      (λ l y q. let e : x ≡ y = cc in omega (arith, ap (J .key) e))
+      (lt-says (J .key j) (J .key x))
+
+  waits-says : (j k : ℕ)
+      → Says
+      (Pending J k (R .e k) j × ((x : ℕ) × (R .pick k ≡ some x) × (J .key j < J .key x)))
+      ((Pending J k (R .e k) j → ⊥) ⊎ ((x : ℕ) → R .pick k ≡ some x → J .key x ≤ J .key j))
+      (waitsAt j k)
+  waits-says j k = says-and (pend-says J k (R .e k) j) (goes-says j (R .pick k))
+
+  -- what a tick adds to the count
+  one-more : (j b : ℕ) → waitsAt j b ≡ true → waitedTo j (suc b) ≡ suc (waitedTo j b)
+  unfolding count
+  one-more j b e = rw e (omega arith)
+
+  no-more : (j b : ℕ) → waitsAt j b ≡ false → waitedTo j (suc b) ≡ waitedTo j b
+  unfolding count
+  no-more j b e = rw e (omega arith)
+
+  -- two sections of one job that share a tick lie one within the other
+  abbrev pub Nested : Type 0
+  Nested =
+      (s τ : ℕ) → Z .owner s ≡ Z .owner τ → Z .from s < Z .to τ → Z .from τ < Z .to s
+      → ((Z .from τ ≤ Z .from s) × (Z .to s ≤ Z .to τ)) ⊎ ((Z .from s ≤ Z .from τ) × (Z .to τ ≤ Z .to s))
+
+  module _ (nested : Nested) where
+    module _ (j a b : ℕ) (p : Pending J b (R .e b) j) where
+      -- no later job runs
+      rests : waitsAt j b ≡ false → ((l : ℕ) → J .key j < J .key l → R .pick b ≢ some l) → Delay j a b → Delay j a (suc b)
+      rests w n (inl u) =
+          inl (record {
+            quiet = below-suc (λ s. waitsAt j s ≡ false) b (u .quiet) w;
+            still = λ l h. others-same J R (n l h) ∙ u .still l h;
+          })
+      rests w n (inr u) =
+          let same : R .e (suc b) (u .who) ≡ R .e b (u .who) = others-same J R (n (u .who) (u .blocker .behind)) in
+          inr (record {
+            who = u .who;
+            blocker = u .blocker;
+            section = u .section;
+            owns = u .owns;
+            entered = u .entered;
+            inside = omega (arith, u .inside);
+            number = omega (arith, u .number, no-more j b w);
+            still = λ l h m. others-same J R (n l h) ∙ u .still l h m;
+            all-to = below-suc (λ s. waitsAt j s ≡ true → R .pick s ≡ some (u .who)) b (u .all-to) (λ t. clash t w);
+          })
+
+      -- a later job x runs, by rule 4
+      module _ (x : ℕ) (c : R .pick b ≡ some x) (l : J .key j < J .key x) (d : Detained J Z C b (R .e b) x) where
+        counted : waitedTo j (suc b) ≡ suc (waitedTo j b)
+        counted = one-more j b (yes-of (waits-says j b) (⊎-elim (λ n. n p) (λ n. omega (arith, n x c))))
+
+        -- the first pending job is j or comes before it
+        ahead : J .key (d .waiting) ≤ J .key j
+        ahead =
+            elim (ℕ-discrete j (d .waiting)) [
+              | yes q ↦ omega (arith, ap (J .key) q)
+              | no q ↦ omega (arith, d .head .leads j p q)
+            ]
+
+        holds-one : Within b x
+        holds-one = blocker-holds b x d (omega (arith, ahead))
+
+        same : (i : ℕ) → i ≢ x → R .e (suc b) i ≡ R .e b i
+        same i n = others-same J R (λ q. n (let y : x ≡ i = cc (c, q) in sym y))
+
+        -- it becomes the one that holds j up
+        begins : Undisturbed j a b → Delayed j a (suc b)
+        begins u =
+            let h = holds-one in
+            let e : R .e b x ≡ R .e a x = u .still x l in
+            record {
+              who = x;
+              blocker = record {
+                behind = l;
+                clearing = λ q. rw (← as-before q) (clear J Z C R rules b x (d .lead .begun) (d .lead .ready .unfinished) q);
+                nearest = λ i g n s f.
+                    let o : R .e b i ≡ R .e a i = u .still i g in
+                    d .lead .leads i (started-pending J Z C R rules (omega arith) (omega arith)) (omega arith) n;
+              };
+              section = h .section;
+              owns = h .owns;
+              entered = omega (arith, h .entered);
+              inside = omega (arith, h .leaves, chosen-up J R c);
+              number = omega (arith, counted, count-none (waitsAt j) b (u .quiet), chosen-up J R c);
+              still = λ i g n. same i n ∙ u .still i g;
+              all-to = below-suc (λ s. waitsAt j s ≡ true → R .pick s ≡ some x) b (λ s g t. clash t (u .quiet s g)) (λ t. c);
+            }
+          where
+            as-before : (q : ℕ) → held Z (after J x) (R .e b) q ≡ held Z (after J x) (R .e a) q
+            as-before q =
+                held-same Z (after J x) (after J x) (R .e b) (R .e a) q
+                (λ s h. hold-on Z (sym (u .still (Z .owner s) (omega (arith, after-is J (h .who))))) (h .who) h)
+                (λ s h. hold-on Z (u .still (Z .owner s) (omega (arith, after-is J (h .who)))) (h .who) h)
+
+        -- the section that it is in still covers the tick, or the one that it is in encloses it
+        goes-on : (u : Delayed j a b) → u .who ≡ x → Delayed j a (suc b)
+        goes-on u q =
+            let y : R .e b (u .who) ≡ R .e b x = ap (R .e b) q in
+            let z : R .e (suc b) (u .who) ≡ R .e (suc b) x = ap (R .e (suc b)) q in
+            let on : (s : ℕ) → Z .owner s ≡ u .who → Z .from s < R .e a (u .who) → R .e b (u .who) < Z .to s → Delayed j a (suc b)
+            = λ s o f t. record {
+              who = u .who;
+              blocker = u .blocker;
+              section = s;
+              owns = o;
+              entered = f;
+              inside = omega (arith, chosen-up J R c);
+              number = omega (arith, u .number, counted, chosen-up J R c);
+              still = λ i g n. same i (λ r. n (r ∙ sym q)) ∙ u .still i g n;
+              all-to = below-suc (λ s. waitsAt j s ≡ true → R .pick s ≡ some (u .who)) b (u .all-to) (λ t. c ∙ ap some (sym q));
+            } in
+            let h = holds-one in
+            elim (decLt (R .e b (u .who)) (Z .to (u .section))) [
+              | yes t ↦ on (u .section) (u .owns) (u .entered) t
+              | no t ↦
+                  ⊎-elim
+                  (λ n. on (h .section) (h .owns ∙ sym q) (omega (arith, n .0, u .entered)) (omega (arith, h .leaves)))
+                  (λ n. absurd (omega (arith, n .1, h .leaves, u .inside)))
+                  (nested (u .section) (h .section) (u .owns ∙ (q ∙ sym (h .owns)))
+                  (omega (arith, u .entered, u .number, h .leaves))
+                  (omega (arith, u .inside, h .entered)))
+            ]
