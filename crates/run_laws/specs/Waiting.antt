@@ -17,10 +17,12 @@ use Rattle.run_laws.specs.Theory.{
   First,
   Run,
   pending-in,
+  in-table,
   grows,
   grows-to,
   chosen-up,
   others-same,
+  within,
   quasi,
 }
 use Rattle.run_laws.specs.Sections.{
@@ -271,3 +273,132 @@ module _ (J : Jobs) (Z : Sections) (C : Ceilings J Z) (R : Run J) (rules : (k : 
                   (omega (arith, u .entered, u .number, h .leaves))
                   (omega (arith, u .inside, h .entered)))
             ]
+
+        -- no second job later than j runs: the first has finished by then, and what is held is what jobs later than it held
+        -- at tick a, which it cleared, and so does the first pending job
+        no-second : (u : Delayed j a b) → u .who ≢ x → ⊥
+        no-second u n =
+            d .stuck
+            (C .lower
+            (level (d .head .ready) (omega (arith, ahead, u .blocker .behind)) begun (in-table J (omega (arith, begun, within J R b (u .who)))))
+            (rw held-now at (u .blocker .clearing (d .on))))
+          where
+            x-before : R .e b x ≡ R .e a x
+            x-before = u .still x l (λ q. n (sym q))
+
+            nearer : J .key (u .who) < J .key x
+            nearer =
+                u .blocker .nearest x l (λ q. n (sym q)) (omega (arith, x-before, d .lead .begun)) (omega (arith, x-before, d .lead .ready .unfinished))
+
+            begun : 0 < R .e b (u .who)
+            begun = omega (arith, u .entered, u .number)
+
+            ended : J .cost (u .who) ≤ R .e b (u .who)
+            ended =
+                elim (decLe (J .cost (u .who)) (R .e b (u .who))) [
+                  | yes f ↦ f
+                  | no f ↦
+                      absurd
+                      (omega (arith, nearer, d .lead .leads (u .who) (started-pending J Z C R rules begun (omega arith)) begun n))
+                ]
+
+            held-now : held Z (after J (u .who)) (R .e a) (d .on) ≡ held Z (pend J b (R .e b)) (R .e b) (d .on)
+            held-now =
+                held-same Z (after J (u .who)) (pend J b (R .e b)) (R .e a) (R .e b) (d .on)
+                (λ s h. then s h (u .still (Z .owner s) (omega (arith, after-is J (h .who), u .blocker .behind)) (apart-from s h)))
+                (λ s h. now s h (λ q. omega (arith, ended, holder-pending J Z C R rules (h .holding) .unfinished, ap (R .e b) q, ap (J .cost) q)))
+              where
+                apart-from : (s : ℕ) → HoldsOn Z (after J (u .who)) (R .e a) (d .on) s → Z .owner s ≢ u .who
+                apart-from s h q = omega (arith, after-is J (h .who), ap (J .key) q)
+
+                then : (s : ℕ) → HoldsOn Z (after J (u .who)) (R .e a) (d .on) s → R .e b (Z .owner s) ≡ R .e a (Z .owner s)
+                    → HoldsOn Z (pend J b (R .e b)) (R .e b) (d .on) s
+                then s h e =
+                    let g : HoldsOn Z (after J (u .who)) (R .e b) (d .on) s = hold-on Z e (h .who) h in
+                    hold-on Z refl (says-yes (pend-says J b (R .e b) (Z .owner s)) (holder-pending J Z C R rules (g .holding))) g
+
+                now : (s : ℕ) → HoldsOn Z (pend J b (R .e b)) (R .e b) (d .on) s → Z .owner s ≢ u .who
+                    → HoldsOn Z (after J (u .who)) (R .e a) (d .on) s
+                now s h m =
+                    let p = holder-pending J Z C R rules (h .holding) in
+                    let f : J .key x ≤ J .key (Z .owner s)
+                    = elim (ℕ-discrete (Z .owner s) x) [
+                      | yes q ↦ omega (arith, ap (J .key) q)
+                      | no q ↦ omega (arith, d .lead .leads (Z .owner s) p (omega (arith, h .holding .entered)) q)
+                    ] in
+                    let e : R .e b (Z .owner s) ≡ R .e a (Z .owner s) = u .still (Z .owner s) (omega arith) m in
+                    hold-on Z (sym e) (after-yes J (omega (arith, nearer))) h
+
+      -- one tick keeps the relation, while j is pending
+      delay-step : Delay j a b → Delay j a (suc b)
+      delay-step h = go (goes-says j (R .pick b)) h
+        where
+          runs-later : (x : ℕ) → R .pick b ≡ some x → J .key j < J .key x → Delay j a b → Delay j a (suc b)
+          runs-later x c l = by (rule-of J Z C R rules c)
+            where
+              by : ByRules J Z C b (R .e b) (some x) → Delay j a b → Delay j a (suc b)
+              by (resumes f s) u = absurd (omega (arith, f .leads j p (λ q. omega (arith, ap (J .key) q))))
+              by (opens f z t) u = absurd (omega (arith, f .leads j p (λ q. omega (arith, ap (J .key) q))))
+              by (detains d) (inl u) = inr (begins x c l d u)
+              by (detains d) (inr u) =
+                  elim (ℕ-discrete (u .who) x) [
+                    | yes q ↦ inr (goes-on x c l d u q)
+                    | no q ↦ absurd (no-second x c l d u q)
+                  ]
+
+          go : {o : Bool} → Says ((x : ℕ) × (R .pick b ≡ some x) × (J .key j < J .key x)) ((x : ℕ) → R .pick b ≡ some x → J .key x ≤ J .key j) o
+              → Delay j a b → Delay j a (suc b)
+          go (so w) u = runs-later (w .0) (w .1) (w .2) u
+          go (not-so n) u =
+              rests
+              (no-of (waits-says j b) (λ w. omega (arith, n (w .1 .0) (w .1 .1), w .1 .2)))
+              (λ l g q. omega (arith, n l q))
+              u
+
+    -- from the release on, while j is unfinished
+    delay : (j b : ℕ) → J .release j ≤ b → R .e b j < J .cost j → Delay j (J .release j) b
+    delay j zero r l = inl (record { quiet = λ s h. absurd (omega arith); still = λ i h. ap (λ t. R .e t i) (omega arith) })
+    delay j (suc b) r l =
+        elim (ℕ-discrete (J .release j) (suc b)) [
+          | yes q ↦
+              inl (record {
+                quiet = λ s h. no-of (waits-says j s) (λ w. omega (arith, w .0 .released));
+                still = λ i h. ap (λ t. R .e t i) (sym q);
+              })
+          | no q ↦
+              (let f : R .e b j < J .cost j = omega (arith, grows J (R .frame b) j) in
+              delay-step j (J .release j) b (record { released = omega arith; unfinished = f }) (delay j b (omega arith) f))
+        ]
+
+    -- ---- the bound
+
+    -- What job j waited before tick b: not at all; or all ticks in which it waits go to the owner of one section, a later job,
+    -- and are fewer than that section's.
+    pub data Waited (j b : ℕ) : Type 0 where
+      never : waitedTo j b ≡ 0 → ((s : ℕ) → s < b → waitsAt j s ≡ false) → Waited j b
+      by : (section : ℕ) → J .key j < J .key (Z .owner section) → waitedTo j b + Z .from section < Z .to section
+          → ((s : ℕ) → s < b → waitsAt j s ≡ true → R .pick s ≡ some (Z .owner section)) → Waited j b
+
+    told : {j a b : ℕ} → Delay j a b → Waited j b
+    told {j} {a} {b} (inl u) = never (count-none (waitsAt j) b (u .quiet)) (u .quiet)
+    told (inr u) =
+        by (u .section)
+        (rw (u .owns) (u .blocker .behind))
+        (omega (arith, u .entered, u .inside, u .number))
+        (rw (u .owns) (u .all-to))
+
+    pub waited-says : (j b : ℕ) → Waited j b
+    unfolding count
+    waited-says j zero = never refl (λ s l. absurd (omega arith))
+    waited-says j (suc b) = go (pend-says J b (R .e b) j) (waited-says j b)
+      where
+        skip : waitsAt j b ≡ false → Waited j b → Waited j (suc b)
+        skip w (never z q) = never (no-more j b w ∙ z) (below-suc (λ s. waitsAt j s ≡ false) b q w)
+        skip w (by s l n t) =
+            by s l
+            (omega (arith, no-more j b w))
+            (below-suc (λ i. waitsAt j i ≡ true → R .pick i ≡ some (Z .owner s)) b t (λ h. clash h w))
+
+        go : {c : Bool} → Says (Pending J b (R .e b) j) (Pending J b (R .e b) j → ⊥) c → Waited j b → Waited j (suc b)
+        go (so p) u = told (delay-step j (J .release j) b p (delay j b (p .released) (p .unfinished)))
+        go (not-so n) u = skip (no-of (waits-says j b) (λ w. n (w .0))) u
