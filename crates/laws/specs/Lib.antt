@@ -3,3 +3,4 @@ pub mod Tests
 pub mod Rows
 pub mod First
 pub mod Order
+pub mod Clears
