@@ -3,4 +3,8 @@ pub mod Tests
 pub mod Rows
 pub mod First
 pub mod Order
+pub mod Reach
+pub mod Times
+pub mod Refusals
+pub mod Accepted
 pub mod Clears

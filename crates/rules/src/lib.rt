@@ -12,7 +12,7 @@ pub struct Span(pub u32);
 
 impl Instant {
     // Whether this instant is earlier than `other`.
-    pub fn before(self, other: Instant) -> bool
+    pub fn earlier(self, other: Instant) -> bool
         ensures { λ r. ⌜ r ≡ ltb (self .0) (other .0) ⌝ }
     {
         self.0 < other.0
