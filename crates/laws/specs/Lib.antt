@@ -8,3 +8,4 @@ pub mod Times
 pub mod Refusals
 pub mod Accepted
 pub mod Clears
+pub mod Keys
