@@ -3,3 +3,4 @@ pub mod Theory
 pub mod Marks
 pub mod Sections
 pub mod Waiting
+pub mod Plans
