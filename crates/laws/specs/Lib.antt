@@ -9,3 +9,4 @@ pub mod Refusals
 pub mod Accepted
 pub mod Clears
 pub mod Keys
+pub mod Nesting
