@@ -4,3 +4,4 @@ pub mod Marks
 pub mod Sections
 pub mod Waiting
 pub mod Plans
+pub mod Facts

@@ -58,9 +58,15 @@ pub record Sections : Type 0 where
   -- what is no section ends at once
   pub off : (s : ℕ) → many ≤ s → to s ≡ 0
 
--- ---- what is held
-
 module _ (Z : Sections) where
+  -- two sections of one job that share a tick lie one within the other
+  abbrev pub Nested : Type 0
+  Nested =
+      (s τ : ℕ) → Z .owner s ≡ Z .owner τ → Z .from s < Z .to τ → Z .from τ < Z .to s
+      → ((Z .from τ ≤ Z .from s) × (Z .to s ≤ Z .to τ)) ⊎ ((Z .from s ≤ Z .from τ) × (Z .to τ ≤ Z .to s))
+
+  -- ---- what is held
+
   pub record Holds (e : ℕ → ℕ) (s : ℕ) : Type 0 where
     pub entered : Z .from s < e (Z .owner s)
     pub leaves : e (Z .owner s) < Z .to s

@@ -27,6 +27,7 @@ use Rattle.run_laws.specs.Theory.{
 }
 use Rattle.run_laws.specs.Sections.{
   Sections,
+  Nested,
   Holds,
   HoldsOn,
   held,
@@ -168,13 +169,7 @@ module _ (J : Jobs) (Z : Sections) (C : Ceilings J Z) (R : Run J) (rules : (k : 
   unfolding count
   no-more j b e = rw e (omega arith)
 
-  -- two sections of one job that share a tick lie one within the other
-  abbrev pub Nested : Type 0
-  Nested =
-      (s τ : ℕ) → Z .owner s ≡ Z .owner τ → Z .from s < Z .to τ → Z .from τ < Z .to s
-      → ((Z .from τ ≤ Z .from s) × (Z .to s ≤ Z .to τ)) ⊎ ((Z .from s ≤ Z .from τ) × (Z .to τ ≤ Z .to s))
-
-  module _ (nested : Nested) where
+  module _ (nested : Nested Z) where
     module _ (j a b : ℕ) (p : Pending J b (R .e b) j) where
       -- no later job runs
       rests : waitsAt j b ≡ false → ((l : ℕ) → J .key j < J .key l → R .pick b ≢ some l) → Delay j a b → Delay j a (suc b)
