@@ -5,3 +5,4 @@ pub mod Sections
 pub mod Waiting
 pub mod Plans
 pub mod Facts
+pub mod Ticks

@@ -23,6 +23,10 @@ pub record Jobs : Type 0 where
   -- no two jobs have one place in the order
   pub apart : (i j : ℕ) → i < count → j < count → key i ≡ key j → i ≡ j
 
+-- an idle tick is nobody's
+pub idle-not : {A : Type 0} {x : ℕ} → _≡_ {A = Option ℕ} none (some x) → A
+idle-not e = let z : _≡_ {A = ℕ} 0 1 = cc in absurd (omega arith)
+
 module _ (J : Jobs) where
   -- Executed ticks are a function e of the job, here at the tick t.
   pub record Pending (t : ℕ) (e : ℕ → ℕ) (j : ℕ) : Type 0 where

@@ -16,6 +16,7 @@ use Rattle.run_laws.specs.Theory.{
   Pending,
   First,
   Run,
+  idle-not,
   pending-in,
   in-table,
   grows,
@@ -146,7 +147,7 @@ module _ (J : Jobs) (Z : Sections) (C : Ceilings J Z) (R : Run J) (rules : (k : 
 
   goes-says : (j : ℕ) (o : Option ℕ)
       → Says ((x : ℕ) × (o ≡ some x) × (J .key j < J .key x)) ((x : ℕ) → o ≡ some x → J .key x ≤ J .key j) (goesAfter j o)
-  goes-says j none = not-so (λ x q. let z : _≡_ {A = ℕ} 0 1 = cc in absurd (omega arith))
+  goes-says j none = not-so (λ x q. idle-not q)
   goes-says j (some x) =
       says-map
       (λ l. (x, refl, l))
