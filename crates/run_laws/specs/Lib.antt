@@ -6,3 +6,4 @@ pub mod Waiting
 pub mod Plans
 pub mod Facts
 pub mod Ticks
+pub mod Statement
