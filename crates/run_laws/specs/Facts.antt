@@ -48,7 +48,18 @@ pub check-table : (t : Table) (p : Plan) → check t ≡ gives p → p .table �
 unfolding planOf
 check-table t p c = ap (λ q. q .table) (sym (check-gives t p c .1))
 
+-- the last arc of a chain
+pub last-arc : {t : Table} {i j : ℕ} → Ancestor t i j → (m : ℕ) × ((i ≡ m) ⊎ Ancestor t i m) × (precedes t m j ≡ true)
+last-arc (direct {i} e) = (i, inl refl, e)
+last-arc (further {m = m} a e) = (m, inr a, e)
+
 module _ (p : Plan) (S : Sound p) where
+  -- an ancestor comes before and is released no later
+  pub forward : {i j : ℕ} → Ancestor (p .table) i j → (keyOf p i < keyOf p j) × (modifiedRelease p i ≤ modifiedRelease p j)
+  forward {i} {j} a =
+      let (li, lj) = ancestor-inside (p .table) (arcs-inside (p .table) (S .rows)) a in
+      (before-key p i j li lj (S .comes-first a), S .released-first a)
+
   -- Arcs and ancestors, as the theory asks for them.
   abbrev pub kinOf : Kin (jobsOf p (S .rows))
   kinOf =
@@ -58,20 +69,10 @@ module _ (p : Plan) (S : Sound p) where
         self = λ j. inl refl;
         via = λ {i} {m} {j} a e. inr (⊎-elim (λ q. direct (rw q e)) (λ b. further b e) a);
         last = λ {i} {j} a. ⊎-elim inl (λ b. inr (last-arc b)) a;
-        ahead = λ {i} {j} a n. ⊎-elim (λ q. absurd (n q)) (forward i j) a;
+        ahead = λ {i} {j} a n. ⊎-elim (λ q. absurd (n q)) forward a;
         tail = λ {i} {j} e. S .rows .job-in i (ancestor-inside (p .table) (arcs-inside (p .table) (S .rows)) (direct e) .0) .costs;
-        acyclic = λ {i} {j} e q. omega (arith, forward i j (direct e) .0, ap (keyOf p) q);
+        acyclic = λ {i} {j} e q. omega (arith, forward (direct e) .0, ap (keyOf p) q);
       }
-    where
-      forward : (i j : ℕ) → Ancestor (p .table) i j → (keyOf p i < keyOf p j) × (modifiedRelease p i ≤ modifiedRelease p j)
-      forward i j a =
-          let (li, lj) = ancestor-inside (p .table) (arcs-inside (p .table) (S .rows)) a in
-          (before-key p i j li lj (S .comes-first a), S .released-first a)
-
-      last-arc : {i j : ℕ} → Ancestor (p .table) i j
-          → (m : ℕ) × ((i ≡ m) ⊎ Ancestor (p .table) i m) × (precedes (p .table) m j ≡ true)
-      last-arc (direct {i} e) = (i, inl refl, e)
-      last-arc (further {m = m} a e) = (m, inr a, e)
 
   -- Sections of one job that share a tick lie one within the other.
   pub sections-nest : Nested (sectionsOf p (S .rows))

@@ -7,3 +7,4 @@ pub mod Plans
 pub mod Facts
 pub mod Ticks
 pub mod Statement
+pub mod Theorems

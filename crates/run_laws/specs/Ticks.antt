@@ -22,6 +22,10 @@ use Rattle.run_laws.specs.Marks.{Kin, MarkRule, clean, itself, inherits,
 use Rattle.run_laws.specs.Plans.{jobsOf}
 use Rattle.run_laws.specs.Facts.{Sound, kinOf}
 
+-- the report at each place of a list; answered past its end
+abbrev pub reportIn : List Bool → ℕ → Bool
+reportIn rs k = getD rs k false
+
 -- ---- one tick
 
 module _ (p : Plan) (S : Sound p) where
@@ -203,10 +207,6 @@ module _ (p : Plan) (S : Sound p) where
           }
 
   -- ---- lists of reports
-
-  -- the report at each place of a list; answered past its end
-  abbrev pub reportIn : List Bool → ℕ → Bool
-  reportIn rs k = getD rs k false
 
   onward-snoc : (st : State) (xs : List Bool) (r : Bool) → onward p st (xs ++ r ∷ []) ≡ tick p (onward p st xs) r
   unfolding onward
