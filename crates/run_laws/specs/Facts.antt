@@ -5,14 +5,14 @@ use mathlib.Core.Bool.{Bool, true, false}
 use mathlib.Core.Option.{Option, none, some}
 use Prim.Native.Nat.{ℕ, zero, suc, _+_, _≤_, _<_}
 use native.Mathlib.Omega.{arith}
-use Rattle.rules.specs.Table.{Table, Plan, jobCount, cost, precedes, sectionCount, owner, from, to, modifiedRelease}
+use Rattle.rules.specs.Table.{Table, Plan, latest, jobCount, cost, precedes, sectionCount, owner, from, to, modifiedRelease}
 use Rattle.rules.specs.Order.{comesBefore}
 use Rattle.rules.specs.Refusals.{Outcome, gives, clashes, checkFault, planOf, check, planInBounds}
 use Rattle.laws.specs.Keys.{keyOf, before-key}
 use Rattle.laws.specs.Nesting.{Within, Overlap, nest}
 use Rattle.laws.specs.Reach.{Ancestor, direct, further, ancestor-inside, precedes-inside}
 use Rattle.laws.specs.Refusals.{RowsRight, JobIn, Accepted, check-gives, accepted-facts}
-use Rattle.laws.specs.Accepted.{arcs-inside, consistent, ancestors-before, plan-in-bounds}
+use Rattle.laws.specs.Accepted.{arcs-inside, consistent, ancestors-before, window, due, plan-in-bounds}
 use Rattle.run_laws.specs.Marks.{Kin}
 use Rattle.run_laws.specs.Sections.{Nested, listed}
 use Rattle.run_laws.specs.Plans.{jobsOf, sectionsOf}
@@ -24,6 +24,7 @@ pub record Sound (p : Plan) : Type 0 where
   -- 003, definition 3.1
   pub released-first : {i j : ℕ} → Ancestor (p .table) i j → modifiedRelease p i ≤ modifiedRelease p j
   pub comes-first : {i j : ℕ} → Ancestor (p .table) i j → comesBefore p i j ≡ true
+  pub releases-in : (j : ℕ) → j < jobCount (p .table) → modifiedRelease p j ≤ latest
   -- refusal 12, the plan's part
   pub in-bounds : planInBounds p ≡ true
 
@@ -37,6 +38,7 @@ plan-sound t e =
       no-clash = A .no-clash;
       released-first = λ {i} {j} a. consistent t A a .0;
       comes-first = λ {i} {j} a. ancestors-before t A a;
+      releases-in = λ j l. omega (arith, window t A j l, due t A j l, A .rows .job-in j l .deadline-in);
       in-bounds = plan-in-bounds t e;
     }
 

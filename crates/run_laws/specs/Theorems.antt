@@ -62,7 +62,7 @@ use Rattle.run_laws.specs.Theory.{
   quasi-normal,
   unfinished-before,
 }
-use Rattle.run_laws.specs.Marks.{Kin, EndedBadly, Marked, unmarked, fresh, stale, marked, finish-by}
+use Rattle.run_laws.specs.Marks.{Kin, Marks, EndedBadly, Marked, unmarked, fresh, stale, marked, finish-by}
 use Rattle.run_laws.specs.Sections.{Sections, Ceilings, ByRules, in-class}
 use Rattle.run_laws.specs.Sections as Sections
 use Rattle.run_laws.specs.Plans.{jobsOf, sectionsOf, ceilingsOf, chosen-by-rules, pending-says}
@@ -95,6 +95,9 @@ module _ (p : Plan) (S : Sound p) where
   abbrev C : Ceilings J Z
   C = ceilingsOf p (S .rows)
 
+  abbrev K : Kin J
+  K = kinOf p S
+
   class : (st : State) → Choice J (st .tick) (executed st) (chosen p st)
   class st = in-class J Z C (chosen-by-rules p (S .rows) st)
 
@@ -108,6 +111,13 @@ module _ (p : Plan) (S : Sound p) where
 
     abbrev R : Run J
     R = runOf p S (chosen p) class (reportIn reports)
+
+    -- who ended badly, and the marks
+    abbrev BadAt : ℕ → ℕ → Type 0
+    BadAt = BadlyAt p S (chosen p) class (reportIn reports)
+
+    abbrev M : Marks J K R BadAt
+    M = marksOf p S (chosen p) class (reportIn reports)
 
     rules : (k : ℕ) → ByRules J Z C k (executed (at k)) (chosen p (at k))
     rules k =
@@ -170,3 +180,26 @@ module _ (p : Plan) (S : Sound p) where
                   yes-says (finished-says (at k) x)
                       (h x (omega (arith, w .released, good p S (chosen p) (reportIn reports) k .tick-is))),
                 ))
+
+    -- (f)
+    unfinished-at : (k j : ℕ) → executed (at k) j < cost (p .table) j → k < allEndBy p
+    unfolding allEndBy
+    unfinished-at = unfinished-before J R
+
+    all-ended-at : (k : ℕ) → allEndBy p ≤ k → (j : ℕ) → finished p (at k) j ≡ true
+    all-ended-at k l j =
+        is-finished k j
+        (elim (decLe (cost (p .table) j) (executed (at k) j)) [
+          | yes h ↦ h
+          | no h ↦ absurd (omega (arith, unfinished-at k j (omega arith)))
+        ])
+
+    some-left : (k : ℕ) → allFinished p (at k) ≡ false → k < allEndBy p
+    unfolding allFinished
+    some-left k e =
+        let w = no-says (all-says _ _ (finished p (at k)) (finished-says (at k)) (jobCount (p .table))) e in
+        unfinished-at k (w .0) (let b = within J R k (w .0) in omega (arith, w .2))
+
+    finish-at : (k j : ℕ) → finish (at k) j ≤ allEndBy p
+    unfolding allEndBy
+    finish-at = finish-by J K R BadAt M

@@ -12,7 +12,8 @@ use lib.ListN.{length, getD, set, take, replicate, length-set, length-replicate,
 use lib.Seq.{getD-set-same, getD-set-other, take-suc, take-length}
 use Rattle.rules.specs.Table.{Plan, State, jobCount, cost, precedes, executed, mark, finish}
 use Rattle.rules.specs.Tick.{chosen, ends, endsBadly, endsStale, markFor, advance, move, tick}
-use Rattle.rules.specs.Run.{start, onward, afterReports}
+use Rattle.rules.specs.Run.{start, onward, afterReports, waits, waited}
+use Rattle.rules.specs.Rows.{count}
 use Rattle.laws.specs.Tests.{Says, so, not-so, clash, eq-says, bool-says, says-and, says-or}
 use Rattle.laws.specs.Rows.{any-says}
 use Rattle.laws.specs.Reach.{precedes-inside}
@@ -223,3 +224,24 @@ module _ (p : Plan) (S : Sound p) where
 
   pub whole-is : (rs : List Bool) → afterReports p rs ≡ stateAfter (chosen p) (reportIn rs) (length rs)
   whole-is rs = rw (take-length rs) at (front-is rs (length rs) (omega arith))
+
+  -- what a job waited in those ticks, as a count of places
+  waited-snoc : (st : State) (xs : List Bool) (r : Bool) (j : ℕ)
+      → waited p st (xs ++ r ∷ []) j ≡ waited p st xs j + cond (waits p (onward p st xs) j) 1 0
+  unfolding waited onward
+  waited-snoc st [] r j = omega arith
+  waited-snoc st (x ∷ xs) r j = omega (arith, waited-snoc (tick p st x) xs r j)
+
+  waited-front : (rs : List Bool) (j k : ℕ) → k ≤ length rs
+      → waited p (start p) (take k rs) j ≡ count (λ n. waits p (stateAfter (chosen p) (reportIn rs) n) j) k
+  unfolding waited count afterReports
+  waited-front rs j zero l = refl
+  waited-front rs j (suc k) l =
+      let e : cond {A = ℕ} (waits p (onward p (start p) (take k rs)) j) 1 0 ≡ cond (waits p (stateAfter (chosen p) (reportIn rs) k) j) 1 0
+      = ap (λ st. cond (waits p st j) 1 0) (front-is rs k (omega arith)) in
+      rw (take-suc rs k false l)
+      (waited-snoc (start p) (take k rs) (getD rs k false) j ∙ omega (arith, waited-front rs j k (omega arith)))
+
+  pub waited-is : (rs : List Bool) (j : ℕ)
+      → waited p (start p) rs j ≡ count (λ n. waits p (stateAfter (chosen p) (reportIn rs) n) j) (length rs)
+  waited-is rs j = rw (take-length rs) at (waited-front rs j (length rs) (omega arith))
