@@ -44,11 +44,11 @@ use Rattle.rules.specs.Refusals.{
   stepFault,
 }
 use Rattle.rules.specs.Order.{comesBefore}
-use Rattle.rules.specs.Tick.{holds, covers, chosen, ends, endsBadly, tick}
+use Rattle.rules.specs.Tick.{pending, holds, covers, chosen, ends, endsBadly, tick}
 use Rattle.rules.specs.Run.{start, afterReports, allEndBy, goesLater, waits, waited, longestLater}
 use Rattle.laws.specs.Tests.{Says, so, not-so, clash, tested, lt-says, le-says, eq-says, says-and, says-yes, yes-says, no-says, yes-of, no-of}
-use Rattle.laws.specs.Rows.{all-says}
-use Rattle.laws.specs.Keys.{keyOf, before-key, key-before, key-due}
+use Rattle.laws.specs.Rows.{all-says, count-ext, largest-at}
+use Rattle.laws.specs.Keys.{keyOf, before-key, key-before, key-due, before-is}
 use Rattle.laws.specs.Reach.{Ancestor}
 use Rattle.run_laws.specs.Theory.{
   Jobs,
@@ -59,15 +59,17 @@ use Rattle.run_laws.specs.Theory.{
   idle-none,
   within,
   chosen-pending,
+  pending-in,
   quasi-normal,
   unfinished-before,
 }
 use Rattle.run_laws.specs.Marks.{Kin, Marks, EndedBadly, Marked, unmarked, fresh, stale, marked, finish-by}
-use Rattle.run_laws.specs.Sections.{Sections, Ceilings, ByRules, in-class}
+use Rattle.run_laws.specs.Sections.{Sections, Ceilings, ByRules, in-class, listed, pend, pend-says}
 use Rattle.run_laws.specs.Sections as Sections
+use Rattle.run_laws.specs.Waiting.{goesAfter, waitsAt, waitedTo, Waited, never, by, waited-says}
 use Rattle.run_laws.specs.Plans.{jobsOf, sectionsOf, ceilingsOf, chosen-by-rules, pending-says}
 use Rattle.run_laws.specs.Facts.{Sound, check-sound, check-table, forward, kinOf, sections-nest}
-use Rattle.run_laws.specs.Ticks.{Good, stateAfter, good, runOf, marksOf, BadlyAt, reportIn, front-is, whole-is}
+use Rattle.run_laws.specs.Ticks.{Good, stateAfter, good, runOf, marksOf, BadlyAt, reportIn, front-is, whole-is, waited-is}
 use Rattle.run_laws.specs.Statement.{
   stateAt,
   Inside,
@@ -75,6 +77,9 @@ use Rattle.run_laws.specs.Statement.{
   in-its-tick,
   EndedSilent,
   WaitsOnlyFor,
+  WaitedFor,
+  nothing,
+  a-section,
   AncestorsFirst,
   OneInside,
   MarksRight,
@@ -203,3 +208,102 @@ module _ (p : Plan) (S : Sound p) where
     finish-at : (k j : ℕ) → finish (at k) j ≤ allEndBy p
     unfolding allEndBy
     finish-at = finish-by J K R BadAt M
+
+    -- (c)
+    silent-of : (i : ℕ) → EndedBadly J K R BadAt (length reports) i → EndedSilent p reports i
+    unfolding ends endsBadly
+    silent-of i b =
+        let q = front-is p S reports (b .at) (omega (arith, b .before)) in
+        record {
+          place = b .at;
+          reported = b .before;
+          its-tick = rw q (b .ended .chosen);
+          its-last = rw q (yes-of (eq-says (executed (at (b .at)) i + 1) (cost (p .table) i)) (λ n. n (omega (arith, b .ended .full))));
+          silent = b .badly;
+        }
+
+    badly-of : (i : ℕ) → EndedSilent p reports i → EndedBadly J K R BadAt (length reports) i
+    unfolding ends endsBadly
+    badly-of i s =
+        let q = front-is p S reports (s .place) (omega (arith, s .reported)) in
+        let last : executed (at (s .place)) i + 1 ≡ cost (p .table) i = yes-says (eq-says _ _) (rw q at (s .its-last)) in
+        record {
+          at = s .place;
+          before = s .reported;
+          ended = record { chosen = rw q at (s .its-tick); full = omega arith };
+          badly = s .silent;
+        }
+
+    marks-at : (j : ℕ) → j < jobCount (p .table) → finished p (at (length reports)) j ≡ true
+        → ((mark (at (length reports)) j ≡ 1) ⊎ (mark (at (length reports)) j ≡ 2))
+        × ((mark (at (length reports)) j ≡ 2) ↔ ((i : ℕ) × ((i ≡ j) ⊎ Ancestor (p .table) i j) × EndedSilent p reports i))
+    marks-at j l f = go (marked J K R BadAt M (length reports) j (S .rows .job-in j l .costs))
+      where
+        go : Marked J K R BadAt M (length reports) j
+            → ((mark (at (length reports)) j ≡ 1) ⊎ (mark (at (length reports)) j ≡ 2))
+            × ((mark (at (length reports)) j ≡ 2) ↔ ((i : ℕ) × ((i ≡ j) ⊎ Ancestor (p .table) i j) × EndedSilent p reports i))
+        go (unmarked v u) = absurd (omega (arith, yes-says (finished-says (at (length reports)) j) f))
+        go (fresh v d sound) =
+            (inl v, ((λ e. absurd (omega arith)), (λ w. absurd (sound (w .0) (w .1) (badly-of (w .0) (w .2))))))
+        go (stale v d i a b) = (inr v, ((λ e. (i, a, silent-of i b)), (λ w. v)))
+
+    -- (d)
+    goes-is : (k j : ℕ) → j < jobCount (p .table) → (o : Option ℕ) → chosen p (at k) ≡ o → goesLater p j o ≡ goesAfter J Z C R rules j o
+    goes-is k j l none c = refl
+    goes-is k j l (some x) c = before-is p j x l (pending-in J (chosen-pending J R {k = k} c))
+
+    pending-is : (j k : ℕ) → pending p (at k) j ≡ pend J k (executed (at k)) j
+    unfolding pending
+    pending-is j k =
+        ap
+        (λ t. leb (modifiedRelease p j) t && ltb (executed (at k) j) (cost (p .table) j))
+        (good p S (chosen p) (reportIn reports) k .tick-is)
+
+    waits-is : (j k : ℕ) → waits p (at k) j ≡ waitsAt J Z C R rules j k
+    unfolding waits
+    waits-is j k = ap (λ b. b && goesLater p j (chosen p (at k))) (pending-is j k) ∙ go (pend-says J k (executed (at k)) j)
+      where
+        go : {b : Bool} → Says (Pending J k (executed (at k)) j) (Pending J k (executed (at k)) j → ⊥) b
+            → (b && goesLater p j (chosen p (at k))) ≡ (b && goesAfter J Z C R rules j (chosen p (at k)))
+        go (so h) = goes-is k j (pending-in J h) (chosen p (at k)) refl
+        go (not-so n) = refl
+
+    waited-at : (j : ℕ) → waited p (start p) reports j ≡ waitedTo J Z C R rules j (length reports)
+    waited-at j =
+        waited-is p S reports j ∙ count-ext (λ k. waits p (at k) j) (waitsAt J Z C R rules j) (length reports) (λ k l. waits-is j k)
+
+    only-for : (j who : ℕ)
+        → ((k : ℕ) → k < length reports → waitsAt J Z C R rules j k ≡ true → chosen p (at k) ≡ some who)
+        → WaitsOnlyFor p reports j who
+    only-for j who h k l w =
+        let q = front-is p S reports k (omega arith) in
+        rw q (h k l (sym (waits-is j k) ∙ (rw q at w)))
+
+    waited-for : (j : ℕ) → WaitedFor p reports j
+    waited-for j = go (waited-says J Z C R rules (sections-nest p S) j (length reports))
+      where
+        go : Waited J Z C R rules (sections-nest p S) j (length reports) → WaitedFor p reports j
+        go (never z q) = nothing (waited-at j ∙ z)
+        go (by s l b n t) =
+            let h = listed Z n in
+            a-section s h
+            (key-before p j (owner (p .table) s) l (S .rows .section-in s h .owner-in) b)
+            (only-for j (owner (p .table) s) t)
+            (omega (arith, waited-at j))
+
+    -- the owner's section is one of a later job's
+    bounded : (j : ℕ) → WaitedFor p reports j → waited p (start p) reports j ≤ longestLater p j - 1
+    unfolding longestLater
+    bounded j (nothing z) = omega arith
+    bounded j (a-section s l b t n) =
+        omega (
+          arith,
+          largest-at (λ k. comesBefore p j (owner (p .table) k)) (ticksOf (p .table)) 0 (sectionCount (p .table)) s l b,
+        )
+
+    one-who : (j : ℕ) → (who : ℕ) × WaitsOnlyFor p reports j who
+    one-who j = go (waited-says J Z C R rules (sections-nest p S) j (length reports))
+      where
+        go : Waited J Z C R rules (sections-nest p S) j (length reports) → (who : ℕ) × WaitsOnlyFor p reports j who
+        go (never z q) = (0, only-for j 0 (λ k l w. clash w (q k l)))
+        go (by s l b n t) = (owner (p .table) s, only-for j (owner (p .table) s) t)

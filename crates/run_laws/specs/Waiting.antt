@@ -372,13 +372,13 @@ module _ (J : Jobs) (Z : Sections) (C : Ceilings J Z) (R : Run J) (rules : (k : 
     -- and are fewer than that section's.
     pub data Waited (j b : ℕ) : Type 0 where
       never : waitedTo j b ≡ 0 → ((s : ℕ) → s < b → waitsAt j s ≡ false) → Waited j b
-      by : (section : ℕ) → J .key j < J .key (Z .owner section) → waitedTo j b + Z .from section < Z .to section
+      by : (section : ℕ) → j < J .count → J .key j < J .key (Z .owner section) → waitedTo j b + Z .from section < Z .to section
           → ((s : ℕ) → s < b → waitsAt j s ≡ true → R .pick s ≡ some (Z .owner section)) → Waited j b
 
-    told : {j a b : ℕ} → Delay j a b → Waited j b
-    told {j} {a} {b} (inl u) = never (count-none (waitsAt j) b (u .quiet)) (u .quiet)
-    told (inr u) =
-        by (u .section)
+    told : {j a b : ℕ} → j < J .count → Delay j a b → Waited j b
+    told {j} {a} {b} l (inl u) = never (count-none (waitsAt j) b (u .quiet)) (u .quiet)
+    told l (inr u) =
+        by (u .section) l
         (rw (u .owns) (u .blocker .behind))
         (omega (arith, u .entered, u .inside, u .number))
         (rw (u .owns) (u .all-to))
@@ -390,11 +390,11 @@ module _ (J : Jobs) (Z : Sections) (C : Ceilings J Z) (R : Run J) (rules : (k : 
       where
         skip : waitsAt j b ≡ false → Waited j b → Waited j (suc b)
         skip w (never z q) = never (no-more j b w ∙ z) (below-suc (λ s. waitsAt j s ≡ false) b q w)
-        skip w (by s l n t) =
-            by s l
+        skip w (by s i l n t) =
+            by s i l
             (omega (arith, no-more j b w))
             (below-suc (λ i. waitsAt j i ≡ true → R .pick i ≡ some (Z .owner s)) b t (λ h. clash h w))
 
         go : {c : Bool} → Says (Pending J b (R .e b) j) (Pending J b (R .e b) j → ⊥) c → Waited j b → Waited j (suc b)
-        go (so p) u = told (delay-step j (J .release j) b p (delay j b (p .released) (p .unfinished)))
+        go (so p) u = told (pending-in J p) (delay-step j (J .release j) b p (delay j b (p .released) (p .unfinished)))
         go (not-so n) u = skip (no-of (waits-says j b) (λ w. n (w .0))) u
