@@ -1,7 +1,7 @@
 -- Demand 3 proved: each statement of Statement, from the theory of runs.
 use mathlib.Core.Path.{_≡_, refl, sym, _∙_, ap, subst}
 use mathlib.Core.Logic.{_≢_, _↔_, _⊎_, inl, inr, ⊎-elim}
-use mathlib.Core.Bool.{Bool, true, false, cond, _&&_}
+use mathlib.Core.Bool.{Bool, true, false, cond, not, _&&_}
 use mathlib.Core.List.{List, [], _∷_}
 use mathlib.Core.Option.{Option, none, some}
 use Prim.Native.Nat.{ℕ, zero, suc, _+_, _*_, _-_, _≤_, _<_}
@@ -9,11 +9,15 @@ use native.Mathlib.Decide.{ℕ-discrete, decLt, decLe}
 use native.Mathlib.Omega.{arith}
 use lib.ListN.{length, getD, take, drop}
 use lib.Dec.{ltb, leb, eqb}
+use lib.Seq.{drop-length, drop-cons}
+use borrow.Author.Tests.{lt-ltb, le-leb, eq-eqb}
 use Rattle.rules.specs.Rows.{all, any, sum, count, largest}
 use Rattle.rules.specs.Table.{
   Table,
   Plan,
   State,
+  latest,
+  mostCost,
   lastTick,
   jobCount,
   cost,
@@ -33,8 +37,12 @@ use Rattle.rules.specs.Refusals.{
   Outcome,
   refused,
   gives,
+  andThen,
+  unless,
   Fault,
   fault,
+  firstOf,
+  demand,
   check,
   finished,
   allFinished,
@@ -47,7 +55,7 @@ use Rattle.rules.specs.Order.{comesBefore}
 use Rattle.rules.specs.Tick.{pending, holds, covers, chosen, ends, endsBadly, tick}
 use Rattle.rules.specs.Run.{start, afterReports, allEndBy, goesLater, waits, waited, longestLater}
 use Rattle.laws.specs.Tests.{Says, so, not-so, clash, tested, lt-says, le-says, eq-says, says-and, says-yes, yes-says, no-says, yes-of, no-of}
-use Rattle.laws.specs.Rows.{all-says, count-ext, largest-at}
+use Rattle.laws.specs.Rows.{below-suc, all-says, count-ext, largest-at, largest-most, sum-most, all-from, any-none, any-from, any-ext}
 use Rattle.laws.specs.Keys.{keyOf, before-key, key-before, key-due, before-is}
 use Rattle.laws.specs.Reach.{Ancestor}
 use Rattle.run_laws.specs.Theory.{
@@ -86,6 +94,11 @@ use Rattle.run_laws.specs.Statement.{
   NeverIdle,
   AllEnd,
   QuasiNormal,
+  step,
+  steps,
+  WaitsBounded,
+  WaitsForSection,
+  StepsAreTicks,
 }
 
 -- ---- the run of a sound plan
@@ -307,3 +320,176 @@ module _ (p : Plan) (S : Sound p) where
         go : Waited J Z C R rules (sections-nest p S) j (length reports) → (who : ℕ) × WaitsOnlyFor p reports j who
         go (never z q) = (0, only-for j 0 (λ k l w. clash w (q k l)))
         go (by s l b n t) = (owner (p .table) s, only-for j (owner (p .table) s) t)
+
+    -- ---- steps
+
+    -- all end long before the last tick
+    end-early : allEndBy p < lastTick
+    unfolding allEndBy
+    end-early =
+        omega (
+          arith,
+          largest-most (λ j. true) (modifiedRelease p) 0 (jobCount (p .table)) latest (omega arith) (λ j l e. S .releases-in j l),
+          sum-most (cost (p .table)) mostCost (jobCount (p .table)) (λ j l. S .rows .job-in j l .cost-in),
+          S .rows .few-jobs,
+        )
+
+    mark-at : (k j : ℕ) → j < jobCount (p .table) → mark (at k) j ≤ 2
+    mark-at k j l = go (marked J K R BadAt M k j (S .rows .job-in j l .costs))
+      where
+        go : Marked J K R BadAt M k j → mark (at k) j ≤ 2
+        go (unmarked v u) = omega arith
+        go (fresh v d sound) = omega arith
+        go (stale v d i a b) = omega arith
+
+    in-bounds-at : (k : ℕ) → k ≤ lastTick → stateInBounds p (at k) ≡ true
+    unfolding stateInBounds jobStateRight
+    in-bounds-at k l =
+        let g = good p S (chosen p) (reportIn reports) k in
+        simp (
+          eq-eqb (length (at k .executed)) (jobCount (p .table)) (g .executed-long),
+          eq-eqb (length (at k .marks)) (jobCount (p .table)) (g .marks-long),
+          eq-eqb (length (at k .finish)) (jobCount (p .table)) (g .finish-long),
+          le-leb (at k .tick) lastTick (omega (arith, g .tick-is)),
+          all-from (jobStateRight p (at k)) (jobCount (p .table)) (λ j h.
+              simp (
+                le-leb (executed (at k) j) (cost (p .table) j) (within J R k j),
+                le-leb (mark (at k) j) 2 (mark-at k j h),
+                le-leb (finish (at k) j) lastTick (omega (arith, finish-at k j, end-early)),
+              )),
+        )
+
+    step-at : (k : ℕ) → k < lastTick → stepFault p (at k) ≡ cond (allFinished p (at k)) (some (fault 13 0)) none
+    unfolding stepFault
+    step-at k l =
+        simp (
+          S .in-bounds,
+          in-bounds-at k (omega arith),
+          lt-ltb (at k .tick) lastTick (omega (arith, good p S (chosen p) (reportIn reports) k .tick-is)),
+        ) (go (allFinished p (at k)))
+      where
+        go : (b : Bool) → firstOf (demand (not b) 13 ∷ []) ≡ cond b (some (fault 13 0)) none
+        go true = refl
+        go false = refl
+
+    -- some job was unfinished before each of the ticks so far
+    unended-early : (n : ℕ) → ((i : ℕ) → i < n → allFinished p (at i) ≡ false) → n < lastTick
+    unended-early zero h = omega arith
+    unended-early (suc n) h = omega (arith, some-left n (h n (omega arith)), end-early)
+
+    -- a step at tick n is refused with 13 or is that tick
+    next-is : (n : ℕ) → n < lastTick → (rest : List Bool)
+        → steps p (at n) (reportIn reports n ∷ rest)
+        ≡ cond (allFinished p (at n)) (refused (fault 13 0)) (steps p (at (suc n)) rest)
+    unfolding tick stateAfter
+    next-is n l rest =
+        ap (λ f. andThen (unless f (tick p (at n) (reportIn reports n))) (λ next. steps p next rest)) (step-at n l) ∙ go (allFinished p (at n))
+      where
+        go : (b : Bool)
+            → andThen (unless (cond b (some (fault 13 0)) none) (tick p (at n) (reportIn reports n))) (λ next. steps p next rest)
+            ≡ cond b (refused (fault 13 0)) (steps p (tick p (at n) (reportIn reports n)) rest)
+        go true = refl
+        go false = refl
+
+    -- steps on from the state after n ticks, with m reports left
+    steps-from : (m n : ℕ) → n + m ≡ length reports → ((i : ℕ) → i < n → allFinished p (at i) ≡ false)
+        → steps p (at n) (drop n reports)
+        ≡ cond (any (λ i. allFinished p (at i)) (length reports)) (refused (fault 13 0)) (gives (at (length reports)))
+    steps-from zero n e h =
+        let q : n ≡ length reports = omega arith in
+        rw (← q)
+        (rw (any-none (λ i. allFinished p (at i)) n h) (rw (let d : drop n reports ≡ [] = rw q (drop-length reports) in d) refl))
+    steps-from (suc m) n e h =
+        rw (drop-cons reports n false (omega arith))
+        (next-is n (unended-early n h) (drop (suc n) reports)
+        ∙ go (tested (allFinished p (at n))) (steps-from m (suc n) (omega arith)))
+      where
+        whole : Outcome State
+        whole = cond (any (λ i. allFinished p (at i)) (length reports)) (refused (fault 13 0)) (gives (at (length reports)))
+
+        go : (allFinished p (at n) ≡ true) ⊎ (allFinished p (at n) ≡ false)
+            → (((i : ℕ) → i < suc n → allFinished p (at i) ≡ false) → steps p (at (suc n)) (drop (suc n) reports) ≡ whole)
+            → cond (allFinished p (at n)) (refused (fault 13 0)) (steps p (at (suc n)) (drop (suc n) reports)) ≡ whole
+        go (inl f) ih = rw (f, any-from (λ i. allFinished p (at i)) (length reports) n (omega arith) f)
+        go (inr f) ih = rw f (ih (below-suc (λ i. allFinished p (at i) ≡ false) n h f))
+
+    steps-are : steps p (start p) reports
+        ≡ cond (any (λ n. allFinished p (stateAt p reports n)) (length reports)) (refused (fault 13 0)) (gives (afterReports p reports))
+    unfolding stateAfter
+    steps-are =
+        rw (
+          whole-is p S reports,
+          any-ext
+              (λ n. allFinished p (stateAt p reports n)) (λ n. allFinished p (at n)) (length reports)
+              (λ n l. ap (allFinished p) (front-is p S reports n (omega arith))),
+        )
+        (steps-from (length reports) 0 (omega arith) (λ i l. absurd (omega arith)))
+
+    -- 003, definition 3.3
+    quasi-at : (m n i j : ℕ) → m < n → chosen p (at m) ≡ some j → chosen p (at n) ≡ some i
+        → modifiedRelease p i ≤ modifiedRelease p j → modifiedDeadline p j ≤ modifiedDeadline p i
+    quasi-at m n i j l a b r =
+        key-due p j i
+        (pending-in J (chosen-pending J R {k = m} a)) (pending-in J (chosen-pending J R {k = n} b))
+        (quasi-normal J R m n i j l a b r)
+
+-- ---- the theorems
+
+-- (a)
+pub ancestors-first : AncestorsFirst
+ancestors-first t p c reports i j h a =
+    let S = check-sound t p c in
+    rw (whole-is p S reports)
+    (ancestors-at p S reports (length reports) i j (rw (whole-is p S reports) at h) (rw (← check-table t p c) at a))
+
+-- (b)
+pub one-inside : OneInside
+one-inside t p c reports s k r a b =
+    let S = check-sound t p c in
+    let q = whole-is p S reports in
+    rw (← check-table t p c) (one-at p S reports (length reports) s k (rw (← check-table t p c) at r) (rw q at a) (rw q at b))
+
+-- (c)
+pub marks-right : MarksRight
+marks-right t p c reports j l f =
+    let S = check-sound t p c in
+    let q = whole-is p S reports in
+    rw (← check-table t p c, q) (marks-at p S reports j (rw (← check-table t p c) at l) (rw q at f))
+
+-- (d), the sharper form first
+pub waits-for-section : WaitsForSection
+waits-for-section t p c reports j = waited-for p (check-sound t p c) reports j
+
+pub waits-bounded : WaitsBounded
+waits-bounded t p c reports j =
+    let S = check-sound t p c in
+    (one-who p S reports j, bounded p S reports j (waits-for-section t p c reports j))
+
+-- (e)
+pub never-idle : NeverIdle
+never-idle t p c reports =
+    let S = check-sound t p c in
+    rw (whole-is p S reports) (idle-at p S reports (length reports))
+
+-- (f)
+pub all-end : AllEnd
+all-end t p c reports =
+    let S = check-sound t p c in
+    rw (whole-is p S reports) (
+      all-ended-at p S reports (length reports),
+      finish-at p S reports (length reports),
+      λ e. omega (arith, some-left p S reports (length reports) e, good p S (chosen p) (reportIn reports) (length reports) .tick-is),
+    )
+
+-- the entry's steps
+pub steps-are-ticks : StepsAreTicks
+steps-are-ticks t p c reports =
+    let S = check-sound t p c in
+    (λ l. rw (whole-is p S reports) (step-at p S reports (length reports) l), steps-are p S reports)
+
+-- 003, definition 3.3
+pub whole-quasi-normal : QuasiNormal
+whole-quasi-normal t p c reports m n i j l e a b r =
+    let S = check-sound t p c in
+    quasi-at p S reports m n i j l
+    (rw (front-is p S reports m (omega arith)) at a) (rw (front-is p S reports n e) at b) r
