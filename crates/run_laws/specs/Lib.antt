@@ -8,3 +8,4 @@ pub mod Facts
 pub mod Ticks
 pub mod Statement
 pub mod Theorems
+pub mod Instances
