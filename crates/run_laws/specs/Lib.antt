@@ -9,3 +9,4 @@ pub mod Ticks
 pub mod Statement
 pub mod Theorems
 pub mod Instances
+pub mod Readings

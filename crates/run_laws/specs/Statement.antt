@@ -38,6 +38,10 @@ stateAt p reports n = afterReports p (take n reports)
 --   direct : precedes t i j ≡ true → Ancestor t i j
 --   further : Ancestor t i m → precedes t m j ≡ true → Ancestor t i j
 
+-- Job k is later than job j: j comes before it in the order.
+abbrev pub Later : Plan → ℕ → ℕ → Type 0
+Later p j k = comesBefore p j k ≡ true
+
 -- The job of a section is inside it: it holds it at the decision, or the tick is its and the section covers that tick.
 pub data Inside (p : Plan) (st : State) (s : ℕ) : Type 0 where
   while-held : holds p st s ≡ true → Inside p st s
@@ -51,17 +55,21 @@ pub record EndedSilent (p : Plan) (reports : List Bool) (i : ℕ) : Type 0 where
   pub its-last : ends p (stateAt p reports place) i ≡ true
   pub silent : getD reports place false ≡ true
 
--- All the ticks in which job j waits, given to later jobs between its modified release and its finish, go to one job.
+-- Ticks given to later jobs, from the rules: `waits p st j`, job j is at or past its modified release and unfinished, and the
+-- tick goes to a later job; `waited p st reports j`, in how many of the ticks with these reports that is so; `longestLater p j`,
+-- the longest section among jobs later than j, 0 where they have none.
+
+-- All the ticks in which job j waits go to the job `who`.
 abbrev pub WaitsOnlyFor : Plan → List Bool → ℕ → ℕ → Type 0
 WaitsOnlyFor p reports j who =
     (n : ℕ) → n < length reports → waits p (stateAt p reports n) j ≡ true → chosen p (stateAt p reports n) ≡ some who
 
--- What job j waited for: nothing; or a section of a later job, to which all those ticks went, fewer than the section has.
+-- What job j waited for: nothing; or a section of a later job, to which all those ticks go, fewer than the section has.
 pub data WaitedFor (p : Plan) (reports : List Bool) (j : ℕ) : Type 0 where
   nothing : waited p (start p) reports j ≡ 0 → WaitedFor p reports j
   a-section : (s : ℕ)
       → s < sectionCount (p .table)
-      → comesBefore p j (owner (p .table) s) ≡ true
+      → Later p j (owner (p .table) s)
       → WaitsOnlyFor p reports j (owner (p .table) s)
       → waited p (start p) reports j ≤ ticksOf (p .table) s - 1
       → WaitedFor p reports j
