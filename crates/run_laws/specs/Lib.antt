@@ -5,7 +5,9 @@ pub mod Sections
 pub mod Waiting
 pub mod Plans
 pub mod Facts
+pub mod States
 pub mod Ticks
+pub mod AnyChoice
 pub mod Statement
 pub mod Theorems
 pub mod Instances
