@@ -135,6 +135,10 @@ module _ (p : Plan) (S : Sound p) where
           | no h ↦ absurd (omega (arith, unfinished-at k j (omega arith)))
         ])
 
+    pub all-finished-by : (k : ℕ) → allEndBy p ≤ k → allFinished p (at k) ≡ true
+    unfolding allFinished
+    all-finished-by k l = all-from (finished p (at k)) (jobCount (p .table)) (λ j h. all-ended-at k l j)
+
     pub some-left : (k : ℕ) → allFinished p (at k) ≡ false → k < allEndBy p
     unfolding allFinished
     some-left k e =

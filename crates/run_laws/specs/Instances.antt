@@ -10,7 +10,7 @@ use lib.ListN.{length, take}
 use Rattle.rules.specs.Table.{Plan, State, precedes, modifiedDeadline, mark, finish}
 use Rattle.rules.specs.Refusals.{Outcome, gives, refused, fault, check, finished, stepFault}
 use Rattle.rules.specs.Tick.{holds, covers, chosen, ends}
-use Rattle.rules.specs.Run.{start, afterReports, allEndBy, waited, longestLater}
+use Rattle.rules.specs.Run.{start, afterReports, allEndBy, endState, waited, longestLater}
 use Rattle.rules.specs.Examples.{p1, p1-plan, all-answered, tick-5-silent}
 use Rattle.laws.specs.Tests.{clash}
 use Rattle.laws.specs.Reach.{Ancestor, direct}
@@ -32,10 +32,11 @@ use Rattle.run_laws.specs.Theorems.{
   all-end,
   steps-are-ticks,
   whole-quasi-normal,
+  end-reached,
 }
 
 -- P1 is accepted.
-p1-accepted : check p1 ≡ gives p1-plan
+pub p1-accepted : check p1 ≡ gives p1-plan
 unfolding check p1 p1-plan
 p1-accepted = refl
 
@@ -76,6 +77,9 @@ pub record AtP1 : Type 0 where
   pub seven-steps : steps p1-plan (start p1-plan) all-answered ≡ gives (afterReports p1-plan all-answered)
   pub eighth-step : stepFault p1-plan (afterReports p1-plan all-answered) ≡ some (fault 13 0)
   pub eight-steps : steps p1-plan (start p1-plan) (false ∷ all-answered) ≡ refused (fault 13 0)
+  -- the program's end state is the one after these seven
+  pub end-at-7 : endState p1-plan ≡ afterReports p1-plan all-answered
+  pub end-in-time : end-reached p1 p1-plan p1-accepted .0 ≤ 9
   -- 003, definition 3.3: job 1 has a tick before job 2, released with it, and an earlier deadline
   pub tick-4-of-1 : chosen p1-plan (stateAt p1-plan all-answered 4) ≡ some 1
   pub due-before : modifiedDeadline p1-plan 1 ≤ modifiedDeadline p1-plan 2
@@ -85,7 +89,7 @@ unfolding p1-plan tick-5-silent afterReports chosen ends
 silent-at-5 = record { place = 5; reported = omega arith; its-tick = refl; its-last = refl; silent = refl }
 
 pub at-p1 : AtP1
-unfolding p1 p1-plan all-answered tick-5-silent afterReports chosen holds covers waited longestLater allEndBy start stepFault
+unfolding p1 p1-plan all-answered tick-5-silent afterReports chosen holds covers waited longestLater allEndBy start endState stepFault
 at-p1 =
     record {
       tick-6-of-2 = refl;
@@ -115,6 +119,8 @@ at-p1 =
       seven-steps = steps-are-ticks p1 p1-plan p1-accepted all-answered .1;
       eighth-step = steps-are-ticks p1 p1-plan p1-accepted all-answered .0 (omega arith);
       eight-steps = steps-are-ticks p1 p1-plan p1-accepted (false ∷ all-answered) .1;
+      end-at-7 = refl;
+      end-in-time = end-reached p1 p1-plan p1-accepted .1;
       tick-4-of-1 = refl;
       due-before = whole-quasi-normal p1 p1-plan p1-accepted all-answered 4 6 2 1 (omega arith) (omega arith) refl refl (omega arith);
     }

@@ -1,14 +1,14 @@
 -- Readings of demand 3 that are false, each refuted by a smallest table. The must-fail edits make the statements these.
 use mathlib.Core.Path.{_≡_, refl, sym}
-use mathlib.Core.Logic.{_↔_, _⊎_, inl}
+use mathlib.Core.Logic.{_↔_, _⊎_, inl, inr}
 use mathlib.Core.Bool.{Bool, true, false, cond, _&&_}
 use mathlib.Core.List.{List, [], _∷_}
 use mathlib.Core.Option.{Option, none, some}
-use Prim.Native.Nat.{ℕ, suc, _-_, _≤_, _<_}
+use Prim.Native.Nat.{ℕ, zero, suc, _-_, _≤_, _<_}
 use native.Mathlib.Omega.{arith}
 use lib.ListN.{length, getD}
 use lib.Dec.{ltb, leb}
-use Rattle.rules.specs.Rows.{count, largest}
+use Rattle.rules.specs.Rows.{any, count, largest}
 use Rattle.rules.specs.Table.{
   Table,
   Plan,
@@ -25,14 +25,14 @@ use Rattle.rules.specs.Table.{
   executed,
   mark,
 }
-use Rattle.rules.specs.Refusals.{Outcome, gives, check, planOf, finished}
+use Rattle.rules.specs.Refusals.{Outcome, refused, gives, fault, check, planOf, finished, allFinished, stepFault}
 use Rattle.rules.specs.Order.{comesBefore}
 use Rattle.rules.specs.Tick.{covers, chosen, ceiling, belowCeiling}
 use Rattle.rules.specs.Run.{start, afterReports, allEndBy, goesLater, waited, longestLater}
 use Rattle.laws.specs.Tests.{clash}
 use Rattle.laws.specs.Reach.{Ancestor}
 use Rattle.run_laws.specs.Theory.{idle-not}
-use Rattle.run_laws.specs.Statement.{stateAt}
+use Rattle.run_laws.specs.Statement.{stateAt, steps}
 
 -- ---- the tables
 
@@ -100,6 +100,26 @@ pub less-two-false : WaitsLessTwo → ⊥
 unfolding check planOf held-up waited start longestLater
 less-two-false h = let e : 1 ≤ 0 = h held-up (planOf held-up) refl (false ∷ false ∷ []) 1 in omega arith
 
+-- (d), sharper, less two: of the two sections one has two ticks, one has one.
+abbrev pub WaitsOwnLessTwo : Type 0
+WaitsOwnLessTwo =
+    (t : Table) (p : Plan) → check t ≡ gives p → (reports : List Bool)
+    → (j : ℕ)
+    → (waited p (start p) reports j ≡ 0) ⊎ ((s : ℕ) × (s < sectionCount t) × (waited p (start p) reports j ≤ ticksOf t s - 2))
+
+pub own-less-two-false : WaitsOwnLessTwo → ⊥
+unfolding check planOf held-up waited start
+own-less-two-false h = go (h held-up (planOf held-up) refl (false ∷ false ∷ []) 1)
+  where
+    short : (s : ℕ) → s < 2 → 1 ≤ ticksOf held-up s - 2 → ⊥
+    short zero l e = omega arith
+    short (suc zero) l e = omega arith
+    short (suc (suc s)) l e = omega arith
+
+    go : (_≡_ {A = ℕ} 1 0) ⊎ ((s : ℕ) × (s < 2) × (1 ≤ ticksOf held-up s - 2)) → ⊥
+    go (inl e) = omega arith
+    go (inr w) = short (w .0) (w .1) (w .2)
+
 -- (d), narrowed to sections on resources whose ceiling reaches the job: job 2 waits one tick, and the only ceiling, 2, is
 -- above its relative deadline, 1.
 abbrev pub WaitsByCeiling : Type 0
@@ -154,3 +174,21 @@ EndsEarlier =
 pub ends-earlier-false : EndsEarlier → ⊥
 unfolding check planOf one allEndBy afterReports start
 ends-earlier-false h = clash (h one (planOf one) refl [] (omega arith) 0) refl
+
+-- Steps, with the last one refused if it ends the last job.
+abbrev pub LastStepRefused : Type 0
+LastStepRefused =
+    (t : Table) (p : Plan) → check t ≡ gives p → (reports : List Bool)
+    → steps p (start p) reports
+    ≡ cond
+    (any (λ n. allFinished p (stateAt p reports n)) (suc (length reports)))
+    (refused (fault 13 0))
+    (gives (afterReports p reports))
+
+pub last-step-refused-false : LastStepRefused → ⊥
+unfolding check planOf one start afterReports stepFault any allFinished
+last-step-refused-false h =
+    let e : _≡_ {A = Outcome State} (gives (afterReports (planOf one) (false ∷ []))) (refused (fault 13 0))
+    = h one (planOf one) refl (false ∷ []) in
+    let z : _≡_ {A = ℕ} 0 1 = cc in
+    omega arith

@@ -5,7 +5,7 @@ use mathlib.Core.Bool.{Bool, true, false, cond}
 use mathlib.Core.List.{List, [], _∷_}
 use mathlib.Core.Option.{Option, none, some}
 use Prim.Native.Nat.{ℕ, _-_, _≤_, _<_}
-use lib.ListN.{length, getD, take}
+use lib.ListN.{length, getD, take, replicate}
 use Rattle.rules.specs.Rows.{any}
 use Rattle.rules.specs.Table.{
   Table,
@@ -25,7 +25,7 @@ use Rattle.rules.specs.Table.{
 use Rattle.rules.specs.Refusals.{Outcome, refused, gives, andThen, unless, fault, check, finished, allFinished, stepFault}
 use Rattle.rules.specs.Order.{comesBefore}
 use Rattle.rules.specs.Tick.{holds, covers, chosen, ends, tick}
-use Rattle.rules.specs.Run.{start, afterReports, allEndBy, waits, waited, longestLater}
+use Rattle.rules.specs.Run.{start, afterReports, allEndBy, endState, waits, waited, longestLater}
 use Rattle.laws.specs.Reach.{Ancestor}
 
 -- ---- words
@@ -142,7 +142,7 @@ StepsAreTicks =
     (refused (fault 13 0))
     (gives (afterReports p reports)))
 
--- ---- two more
+-- ---- three more
 
 -- (d), sharper: the one job's own section, less one.
 abbrev pub WaitsForSection : Type 0
@@ -157,3 +157,13 @@ QuasiNormal =
     → (m n i j : ℕ) → m < n → n ≤ length reports
     → chosen p (stateAt p reports m) ≡ some j → chosen p (stateAt p reports n) ≡ some i
     → modifiedRelease p i ≤ modifiedRelease p j → modifiedDeadline p j ≤ modifiedDeadline p i
+
+-- The state to which the program runs, every report answered until all have finished, is the run's first one in which all
+-- have finished, and comes by (f)'s tick.
+abbrev pub EndReached : Type 0
+EndReached =
+    (t : Table) (p : Plan) → check t ≡ gives p
+    → (n : ℕ) × (n ≤ allEndBy p)
+    × (endState p ≡ afterReports p (replicate n false))
+    × (allFinished p (afterReports p (replicate n false)) ≡ true)
+    × ((m : ℕ) → m < n → allFinished p (afterReports p (replicate m false)) ≡ false)

@@ -5,7 +5,7 @@ use mathlib.Core.List.{List, [], _∷_, _++_}
 use mathlib.Core.Option.{Option, none, some}
 use Prim.Native.Nat.{ℕ, zero, suc, _+_, _≤_, _<_}
 use native.Mathlib.Omega.{arith}
-use lib.ListN.{length, getD, set, take, replicate, length-set, length-replicate}
+use lib.ListN.{length, getD, set, take, replicate, length-set, length-replicate, getD-replicate}
 use lib.Seq.{take-suc, take-length}
 use Rattle.rules.specs.Rows.{count}
 use Rattle.rules.specs.Table.{Plan, State, jobCount, executed}
@@ -64,6 +64,13 @@ module _ (p : Plan) where
     good report zero = start-good
     good report (suc k) = move-good (report k) (ch (stateAfter report k)) (good report k)
 
+    -- only the reports of those ticks count
+    pub same-reports : (f g : ℕ → Bool) (k : ℕ) → ((i : ℕ) → i < k → f i ≡ g i) → stateAfter f k ≡ stateAfter g k
+    unfolding stateAfter
+    same-reports f g zero h = refl
+    same-reports f g (suc k) h =
+        rw (same-reports f g k (λ i l. h i (omega arith)), h k (omega arith))
+
   -- ---- lists of reports
 
   onward-snoc : (st : State) (xs : List Bool) (r : Bool) → onward p st (xs ++ r ∷ []) ≡ tick p (onward p st xs) r
@@ -102,3 +109,10 @@ module _ (p : Plan) where
   pub waited-is : (rs : List Bool) (j : ℕ)
       → waited p (start p) rs j ≡ count (λ n. waits p (stateAfter (chosen p) (reportIn rs) n) j) (length rs)
   waited-is rs j = rw (take-length rs) at (waited-front rs j (length rs) (omega arith))
+
+  -- The state after n answered reports.
+  pub answered-is : (n : ℕ) → afterReports p (replicate n false) ≡ stateAfter (chosen p) (λ k. false) n
+  answered-is n =
+      let e : length (replicate n false) ≡ n = length-replicate n false in
+      whole-is (replicate n false)
+      ∙ (rw e (same-reports (chosen p) (reportIn (replicate n false)) (λ k. false) n (λ i l. getD-replicate n i false false l)))

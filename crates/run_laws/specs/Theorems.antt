@@ -29,7 +29,7 @@ use Rattle.rules.specs.Table.{
 use Rattle.rules.specs.Refusals.{Outcome, refused, gives, andThen, unless, fault, check, allFinished}
 use Rattle.rules.specs.Order.{comesBefore}
 use Rattle.rules.specs.Tick.{pending, holds, covers, chosen, ends, endsBadly, tick}
-use Rattle.rules.specs.Run.{start, afterReports, goesLater, waits, waited, longestLater}
+use Rattle.rules.specs.Run.{start, afterReports, answered, allEndBy, endState, goesLater, waits, waited, longestLater}
 use Rattle.laws.specs.Tests.{Says, so, not-so, clash, tested, lt-says, le-says, eq-says, says-and, yes-says, yes-of}
 use Rattle.laws.specs.Rows.{below-suc, count-ext, largest-at, any-none, any-from, any-ext}
 use Rattle.laws.specs.Keys.{key-before, before-is}
@@ -40,12 +40,13 @@ use Rattle.run_laws.specs.Sections as Sections
 use Rattle.run_laws.specs.Waiting.{goesAfter, waitsAt, waitedTo, Waited, never, by, waited-says}
 use Rattle.run_laws.specs.Plans.{jobsOf, sectionsOf, ceilingsOf, chosen-by-rules}
 use Rattle.run_laws.specs.Facts.{Sound, check-sound, check-table, kinOf, sections-nest}
-use Rattle.run_laws.specs.States.{Good, stateAfter, good, reportIn, front-is, whole-is, waited-is}
+use Rattle.run_laws.specs.States.{Good, stateAfter, good, reportIn, front-is, whole-is, waited-is, answered-is}
 use Rattle.run_laws.specs.Ticks.{runOf, BadlyAt}
 use Rattle.run_laws.specs.AnyChoice.{
   ancestors-at,
   idle-at,
   all-ended-at,
+  all-finished-by,
   some-left,
   finish-at,
   marks-at,
@@ -69,6 +70,7 @@ use Rattle.run_laws.specs.Statement.{
   NeverIdle,
   AllEnd,
   QuasiNormal,
+  EndReached,
   step,
   steps,
   WaitsBounded,
@@ -265,6 +267,30 @@ module _ (p : Plan) (S : Sound p) where
         )
         (steps-from (length reports) 0 (omega arith) (λ i l. absurd (omega arith)))
 
+  -- ---- the end, every report answered
+
+  abbrev quiet : ℕ → State
+  quiet k = stateAfter p (chosen p) (λ i. false) k
+
+  -- where m more ticks end at the last one, after k ticks with a job unfinished before each
+  end-from : (m k : ℕ) → k + m ≡ allEndBy p → ((i : ℕ) → i < k → allFinished p (quiet i) ≡ false)
+      → (n : ℕ) × (n ≤ allEndBy p) × (answered p m (quiet k) ≡ quiet n)
+      × (allFinished p (quiet n) ≡ true) × ((i : ℕ) → i < n → allFinished p (quiet i) ≡ false)
+  unfolding answered tick stateAfter
+  end-from zero k e h = (k, omega arith, refl, all-finished-by p S (chosen p) class (λ i. false) k (omega arith), h)
+  end-from (suc m) k e h = go (tested (allFinished p (quiet k))) (end-from m (suc k) (omega arith))
+    where
+      End : State → Type 0
+      End st =
+          (n : ℕ) × (n ≤ allEndBy p) × (st ≡ quiet n)
+          × (allFinished p (quiet n) ≡ true) × ((i : ℕ) → i < n → allFinished p (quiet i) ≡ false)
+
+      go : (allFinished p (quiet k) ≡ true) ⊎ (allFinished p (quiet k) ≡ false)
+          → (((i : ℕ) → i < suc k → allFinished p (quiet i) ≡ false) → End (answered p m (quiet (suc k))))
+          → End (cond (allFinished p (quiet k)) (quiet k) (answered p m (quiet (suc k))))
+      go (inl f) ih = (k, omega arith, (rw f), f, h)
+      go (inr f) ih = rw f (ih (below-suc (λ i. allFinished p (quiet i) ≡ false) k h f))
+
 -- ---- the theorems
 
 -- (a)
@@ -335,3 +361,15 @@ pub whole-quasi-normal : QuasiNormal
 whole-quasi-normal t p c reports m n i j l e a b r =
     quasi-at p (check-sound t p c) (chosen p) (class p (check-sound t p c)) (reportIn reports) m n i j l
     (rw (front-is p reports m (omega arith)) at a) (rw (front-is p reports n e) at b) r
+
+-- the end state
+pub end-reached : EndReached
+unfolding endState stateAfter
+end-reached t p c =
+    let (n, l, e, f, h) = end-from p (check-sound t p c) (allEndBy p) 0 (omega arith) (λ i g. absurd (omega arith)) in (
+      n,
+      l,
+      e ∙ sym (answered-is p n),
+      rw (answered-is p n) f,
+      λ m g. rw (answered-is p m) (h m g),
+    )
