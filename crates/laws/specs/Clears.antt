@@ -1,18 +1,16 @@
 -- Ceilings: a resource's is the smallest span of the jobs with a section on it; and the laws of `clears`.
-use mathlib.Core.Path.{_≡_, refl, sym, _∙_, ap}
-use mathlib.Core.Logic.{_≢_, _⊎_, inl, inr, ⊎-elim}
-use mathlib.Core.Bool.{Bool, true, false, _||_}
+use mathlib.Core.Path.{_≡_, refl}
+use mathlib.Core.Logic.{_≢_, _⊎_, inl, inr}
+use mathlib.Core.Bool.{Bool, true, false}
 use mathlib.Core.Option.{Option, none, some}
-use Prim.Native.Nat.{ℕ, zero, suc, _+_, _≤_, _<_}
+use Prim.Native.Nat.{ℕ, _+_, _≤_, _<_}
 use native.Mathlib.Omega.{arith}
 use lib.Dec.{ltb, eqb}
-use Rattle.rules.specs.Rows.{all}
 use Rattle.rules.specs.Table.{Plan, State, resources, sectionCount, owner, resource, span}
 use Rattle.rules.specs.Tick.{tightest, spanOf, ceiling, belowCeiling, units, held, clears, mayStart}
 use Rattle.laws.specs.Tests.{
   Says,
   so,
-  not-so,
   lt-says,
   eq-says,
   bool-says,

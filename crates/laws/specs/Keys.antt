@@ -1,17 +1,17 @@
 -- The order of a plan's jobs as one number, with no bound on their number, their times or their ranks.
-use mathlib.Core.Path.{_≡_, refl, sym, _∙_, ap}
-use mathlib.Core.Logic.{_≢_, ⊎-elim}
-use mathlib.Core.Bool.{Bool, true, false}
-use Prim.Native.Nat.{ℕ, zero, suc, _+_, _-_, _≤_, _<_}
+use mathlib.Core.Path.{_≡_, refl, ap}
+use mathlib.Core.Logic.{⊎-elim}
+use mathlib.Core.Bool.{true}
+use Prim.Native.Nat.{ℕ, _≤_, _<_}
 use native.Mathlib.Decide.{ℕ-discrete}
 use native.Mathlib.Omega.{arith}
 use lib.Dec.{ltb}
 use Rattle.rules.specs.Rows.{largest}
 use Rattle.rules.specs.Table.{Plan, jobCount, modifiedRelease, modifiedDeadline, span}
 use Rattle.rules.specs.Order.{rank, comesBefore}
-use Rattle.laws.specs.Tests.{Says, lt-says, says-map, says-same, yes-says, yes-of}
+use Rattle.laws.specs.Tests.{lt-says, says-map, says-same, yes-says, yes-of}
 use Rattle.laws.specs.Rows.{largest-at}
-use Rattle.laws.specs.Order.{EarlierIn, before-says, before-total, key, key-earlier, key-deadline}
+use Rattle.laws.specs.Order.{before-says, before-total, key, key-earlier, key-deadline}
 
 module _ (p : Plan) where
   -- the largest release and the largest rank

@@ -1,17 +1,15 @@
 -- Sections of one job, where refusal 8 finds no clash: two that share a tick lie one within the other, on different resources.
-use mathlib.Core.Path.{_≡_, refl, sym, _∙_, ap}
+use mathlib.Core.Path.{_≡_, sym, ap}
 use mathlib.Core.Logic.{_≢_, _⊎_, inl, inr, ⊎-elim}
-use mathlib.Core.Bool.{Bool, true, false, not, _&&_, _||_}
-use Prim.Native.Nat.{ℕ, zero, suc, _≤_, _<_}
+use mathlib.Core.Bool.{false}
+use Prim.Native.Nat.{ℕ, _≤_, _<_}
 use native.Mathlib.Decide.{ℕ-discrete, decLt}
 use native.Mathlib.Omega.{arith}
-use lib.Dec.{ltb, leb, eqb}
-use Rattle.rules.specs.Rows.{any}
 use Rattle.rules.specs.Table.{Table, sectionCount, owner, resource, from, to}
 use Rattle.rules.specs.Refusals.{overlap, within, clashes}
 use Rattle.rules.specs.Refusals as Refusals
 use Rattle.laws.specs.Tests.{Says, lt-says, le-says, eq-says, says-map, says-and, says-or, says-not, no-says}
-use Rattle.laws.specs.Rows.{any-says, any-not}
+use Rattle.laws.specs.Rows.{any-not}
 
 module _ (t : Table) where
   -- the section k lies within the section s

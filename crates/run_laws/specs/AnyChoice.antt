@@ -1,15 +1,14 @@
 -- The clauses on ancestors, marks, idling and ends, over states, for any choice of the class.
-use mathlib.Core.Path.{_≡_, refl, sym, _∙_, ap}
+use mathlib.Core.Path.{_≡_, refl}
 use mathlib.Core.Logic.{_≢_, _↔_, _⊎_, inl, inr}
-use mathlib.Core.Bool.{Bool, true, false, cond, not, _&&_}
-use mathlib.Core.List.{List, [], _∷_}
+use mathlib.Core.Bool.{Bool, true, false, cond, not}
+use mathlib.Core.List.{[], _∷_}
 use mathlib.Core.Option.{Option, none, some}
-use Prim.Native.Nat.{ℕ, zero, suc, _+_, _*_, _≤_, _<_}
+use Prim.Native.Nat.{ℕ, zero, suc, _≤_, _<_}
 use native.Mathlib.Decide.{decLe}
 use native.Mathlib.Omega.{arith}
 use lib.ListN.{length}
 use borrow.Author.Tests.{lt-ltb, le-leb, eq-eqb}
-use Rattle.rules.specs.Rows.{all, sum, largest}
 use Rattle.rules.specs.Table.{
   Plan,
   State,
@@ -24,18 +23,7 @@ use Rattle.rules.specs.Table.{
   mark,
   finish,
 }
-use Rattle.rules.specs.Refusals.{
-  Fault,
-  fault,
-  firstOf,
-  demand,
-  finished,
-  allFinished,
-  planInBounds,
-  jobStateRight,
-  stateInBounds,
-  stepFault,
-}
+use Rattle.rules.specs.Refusals.{fault, firstOf, demand, finished, allFinished, jobStateRight, stateInBounds, stepFault}
 use Rattle.rules.specs.Run.{allEndBy}
 use Rattle.laws.specs.Tests.{Says, eq-says, yes-says, no-says, yes-of}
 use Rattle.laws.specs.Rows.{all-says, all-from, largest-most, sum-most}
@@ -56,7 +44,7 @@ use Rattle.run_laws.specs.Theory.{
 use Rattle.run_laws.specs.Marks.{Kin, Marks, EndedBadly, Marked, unmarked, fresh, stale, marked, finish-by}
 use Rattle.run_laws.specs.Plans.{jobsOf}
 use Rattle.run_laws.specs.Facts.{Sound, forward, kinOf}
-use Rattle.run_laws.specs.States.{Good, stateAfter, good}
+use Rattle.run_laws.specs.States.{stateAfter, good}
 use Rattle.run_laws.specs.Ticks.{runOf, marksOf, BadlyAt}
 
 module _ (p : Plan) (S : Sound p) where

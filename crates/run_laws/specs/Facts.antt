@@ -1,17 +1,17 @@
 -- What the theorems use of an accepted table: right rows, sections that nest, and ancestors that come before.
-use mathlib.Core.Path.{_≡_, refl, sym, _∙_, ap}
-use mathlib.Core.Logic.{_≢_, _⊎_, inl, inr, ⊎-elim}
-use mathlib.Core.Bool.{Bool, true, false}
-use mathlib.Core.Option.{Option, none, some}
-use Prim.Native.Nat.{ℕ, zero, suc, _+_, _≤_, _<_}
+use mathlib.Core.Path.{_≡_, refl, sym, ap}
+use mathlib.Core.Logic.{_⊎_, inl, inr, ⊎-elim}
+use mathlib.Core.Bool.{true, false}
+use mathlib.Core.Option.{none}
+use Prim.Native.Nat.{ℕ, _≤_, _<_}
 use native.Mathlib.Omega.{arith}
-use Rattle.rules.specs.Table.{Table, Plan, latest, jobCount, cost, precedes, sectionCount, owner, from, to, modifiedRelease}
+use Rattle.rules.specs.Table.{Table, Plan, latest, jobCount, precedes, sectionCount, modifiedRelease}
 use Rattle.rules.specs.Order.{comesBefore}
-use Rattle.rules.specs.Refusals.{Outcome, gives, clashes, checkFault, planOf, check, planInBounds}
+use Rattle.rules.specs.Refusals.{gives, clashes, checkFault, planOf, check, planInBounds}
 use Rattle.laws.specs.Keys.{keyOf, before-key}
-use Rattle.laws.specs.Nesting.{Within, Overlap, nest}
-use Rattle.laws.specs.Reach.{Ancestor, direct, further, ancestor-inside, precedes-inside}
-use Rattle.laws.specs.Refusals.{RowsRight, JobIn, Accepted, check-gives, accepted-facts}
+use Rattle.laws.specs.Nesting.{nest}
+use Rattle.laws.specs.Reach.{Ancestor, direct, further, ancestor-inside}
+use Rattle.laws.specs.Refusals.{RowsRight, check-gives, accepted-facts}
 use Rattle.laws.specs.Accepted.{arcs-inside, consistent, ancestors-before, window, due, plan-in-bounds}
 use Rattle.run_laws.specs.Marks.{Kin}
 use Rattle.run_laws.specs.Sections.{Nested, listed}

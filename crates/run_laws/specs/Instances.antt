@@ -1,28 +1,20 @@
 -- The seven theorems at P1, and at P3 where the step at tick 5 is silent, with 01's numbers: none of them asks what can't be met.
-use mathlib.Core.Path.{_≡_, refl, sym, _∙_, ap}
-use mathlib.Core.Logic.{_⊎_, inl, inr, ⊎-elim}
-use mathlib.Core.Bool.{Bool, true, false}
-use mathlib.Core.List.{List, [], _∷_}
-use mathlib.Core.Option.{Option, none, some}
-use Prim.Native.Nat.{ℕ, zero, suc, _-_, _≤_, _<_}
+use mathlib.Core.Path.{_≡_, refl, sym, _∙_}
+use mathlib.Core.Logic.{_⊎_, inl, inr}
+use mathlib.Core.Bool.{true, false}
+use mathlib.Core.List.{[], _∷_}
+use mathlib.Core.Option.{none, some}
+use Prim.Native.Nat.{ℕ, _-_, _≤_}
 use native.Mathlib.Omega.{arith}
-use lib.ListN.{length, take}
-use Rattle.rules.specs.Table.{Plan, State, precedes, modifiedDeadline, mark, finish}
-use Rattle.rules.specs.Refusals.{Outcome, gives, refused, fault, check, finished, stepFault}
+use lib.ListN.{take}
+use Rattle.rules.specs.Table.{precedes, modifiedDeadline, mark, finish}
+use Rattle.rules.specs.Refusals.{gives, refused, fault, check, finished, stepFault}
 use Rattle.rules.specs.Tick.{holds, covers, chosen, ends}
 use Rattle.rules.specs.Run.{start, afterReports, allEndBy, endState, waited, longestLater}
 use Rattle.rules.specs.Examples.{p1, p1-plan, all-answered, tick-5-silent}
 use Rattle.laws.specs.Tests.{clash}
 use Rattle.laws.specs.Reach.{Ancestor, direct}
-use Rattle.run_laws.specs.Statement.{
-  stateAt,
-  Inside,
-  while-held,
-  in-its-tick,
-  EndedSilent,
-  WaitsOnlyFor,
-  steps,
-}
+use Rattle.run_laws.specs.Statement.{stateAt, Inside, while-held, EndedSilent, WaitsOnlyFor, steps}
 use Rattle.run_laws.specs.Theorems.{
   ancestors-first,
   one-inside,

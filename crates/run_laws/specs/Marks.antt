@@ -1,15 +1,14 @@
 -- Marks and finishes in a run of any choice of the class: a finished job is stale exactly if it or an ancestor ended badly,
 -- and its finish is the tick after the one that ended it.
 use mathlib.Core.Path.{_≡_, refl, sym, _∙_, ap}
-use mathlib.Core.Logic.{_≢_, _↔_, _⊎_, inl, inr, ⊎-elim}
-use mathlib.Core.Option.{Option, none, some}
+use mathlib.Core.Logic.{_≢_, _⊎_, inl, inr, ⊎-elim}
+use mathlib.Core.Option.{Option, some}
 use Prim.Native.Nat.{ℕ, zero, suc, _+_, _≤_, _<_}
-use native.Mathlib.Decide.{ℕ-discrete, decLt, decLe}
+use native.Mathlib.Decide.{ℕ-discrete, decLt}
 use native.Mathlib.Omega.{arith}
 use Rattle.rules.specs.Rows.{sum}
 use Rattle.run_laws.specs.Theory.{
   Jobs,
-  Pending,
   Run,
   lastRelease,
   chosen-pending,

@@ -1,12 +1,12 @@
 -- A plan with right rows is what the theory speaks of, and the rules' choice is one by rules 1 to 4.
-use mathlib.Core.Path.{_≡_, refl, sym, _∙_, ap}
-use mathlib.Core.Logic.{_≢_, _⊎_, inl, inr, ⊎-elim}
+use mathlib.Core.Path.{_≡_, refl, sym, _∙_}
+use mathlib.Core.Logic.{_≢_, _⊎_, ⊎-elim}
 use mathlib.Core.Bool.{Bool, true, false, cond, _&&_, _||_}
-use mathlib.Core.Option.{Option, none, some}
-use Prim.Native.Nat.{ℕ, zero, suc, _+_, _*_, _/_, _%_, _≤_, _<_}
-use native.Mathlib.Decide.{ℕ-discrete, decLt}
+use mathlib.Core.Option.{Option, some}
+use Prim.Native.Nat.{ℕ, _≤_, _<_}
+use native.Mathlib.Decide.{decLt}
 use native.Mathlib.Omega.{arith}
-use lib.ListN.{length, getD, List·getD-eq-default}
+use lib.ListN.{List·getD-eq-default}
 use Rattle.rules.specs.Table.{
   Table,
   Plan,
@@ -23,20 +23,8 @@ use Rattle.rules.specs.Table.{
   span,
   executed,
 }
-use Rattle.rules.specs.Order.{rank, comesBefore}
-use Rattle.rules.specs.Tick.{
-  pending,
-  started,
-  holds,
-  units,
-  heldOn,
-  clears,
-  mayStart,
-  firstPending,
-  firstStarted,
-  choose,
-  chosen,
-}
+use Rattle.rules.specs.Order.{comesBefore}
+use Rattle.rules.specs.Tick.{pending, started, holds, units, heldOn, clears, firstPending, firstStarted, choose, chosen}
 use Rattle.rules.specs.Tick as Tick
 use Rattle.laws.specs.Tests.{Says, so, not-so, clash, lt-says, says-and, says-yes, yes-says, yes-of}
 use Rattle.laws.specs.First.{FirstOf, found, first-of}
@@ -44,12 +32,11 @@ use Rattle.laws.specs.First as First
 use Rattle.laws.specs.Order.{before-order, before-total}
 use Rattle.laws.specs.Keys.{keyOf, key-apart, key-span, before-key, rank-apart}
 use Rattle.laws.specs.Clears.{clears-lower, clears-cover, clears-free, may-says}
-use Rattle.laws.specs.Refusals.{RowsRight, SectionIn}
+use Rattle.laws.specs.Refusals.{RowsRight}
 use Rattle.run_laws.specs.Theory.{Jobs, Pending, First, pending-in}
 use Rattle.run_laws.specs.Sections.{
   Sections,
   Ceilings,
-  HoldsOn,
   listed,
   holdsOn,
   held,
@@ -57,8 +44,6 @@ use Rattle.run_laws.specs.Sections.{
   none-held,
   pend,
   pend-says,
-  FirstStarted,
-  Detained,
   ByRules,
   nobody,
   resumes,

@@ -1,11 +1,11 @@
 -- Sections and ceilings in a run of 01's rules 1 to 4, from two laws of `clears`: what a started unfinished job clears, and
 -- that no two jobs are inside sections of one resource.
-use mathlib.Core.Path.{_≡_, refl, sym, _∙_, ap}
+use mathlib.Core.Path.{_≡_, refl, sym, ap}
 use mathlib.Core.Logic.{_≢_, _⊎_, inl, inr, ⊎-elim}
-use mathlib.Core.Bool.{Bool, true, false, cond, _&&_}
+use mathlib.Core.Bool.{Bool, true, cond, _&&_}
 use mathlib.Core.Option.{Option, none, some}
 use Prim.Native.Nat.{ℕ, zero, suc, _+_, _≤_, _<_}
-use native.Mathlib.Decide.{ℕ-discrete, decLt, decLe}
+use native.Mathlib.Decide.{ℕ-discrete, decLt}
 use native.Mathlib.Omega.{arith}
 use lib.Dec.{ltb, leb, eqb}
 use Rattle.rules.specs.Rows.{sum}
@@ -33,12 +33,8 @@ use Rattle.run_laws.specs.Theory.{
   Choice,
   idles,
   runs,
-  Frame,
-  stays,
-  moves,
   Run,
   pending-in,
-  in-table,
   grows,
   chosen-pending,
   chosen-first,

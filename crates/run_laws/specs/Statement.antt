@@ -3,7 +3,7 @@ use mathlib.Core.Path.{_≡_}
 use mathlib.Core.Logic.{_↔_, _⊎_}
 use mathlib.Core.Bool.{Bool, true, false, cond}
 use mathlib.Core.List.{List, [], _∷_}
-use mathlib.Core.Option.{Option, none, some}
+use mathlib.Core.Option.{none, some}
 use Prim.Native.Nat.{ℕ, _-_, _≤_, _<_}
 use lib.ListN.{length, getD, take, replicate}
 use Rattle.rules.specs.Rows.{any}
@@ -22,7 +22,18 @@ use Rattle.rules.specs.Table.{
   mark,
   finish,
 }
-use Rattle.rules.specs.Refusals.{Outcome, refused, gives, andThen, unless, fault, check, finished, allFinished, stepFault}
+use Rattle.rules.specs.Refusals.{
+  Outcome,
+  refused,
+  gives,
+  andThen,
+  unless,
+  fault,
+  check,
+  finished,
+  allFinished,
+  stepFault,
+}
 use Rattle.rules.specs.Order.{comesBefore}
 use Rattle.rules.specs.Tick.{holds, covers, chosen, ends, tick}
 use Rattle.rules.specs.Run.{start, afterReports, allEndBy, endState, waits, waited, longestLater}

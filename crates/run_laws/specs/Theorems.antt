@@ -6,12 +6,11 @@ use mathlib.Core.List.{List, [], _∷_}
 use mathlib.Core.Option.{Option, none, some}
 use Prim.Native.Nat.{ℕ, zero, suc, _+_, _-_, _≤_, _<_}
 use native.Mathlib.Omega.{arith}
-use lib.ListN.{length, getD, take, drop}
+use lib.ListN.{length, drop}
 use lib.Dec.{ltb, leb}
 use lib.Seq.{drop-length, drop-cons}
 use Rattle.rules.specs.Rows.{any}
 use Rattle.rules.specs.Table.{
-  Table,
   Plan,
   State,
   lastTick,
@@ -26,7 +25,7 @@ use Rattle.rules.specs.Table.{
   modifiedRelease,
   executed,
 }
-use Rattle.rules.specs.Refusals.{Outcome, refused, gives, andThen, unless, fault, check, allFinished}
+use Rattle.rules.specs.Refusals.{Outcome, refused, gives, andThen, unless, fault, allFinished}
 use Rattle.rules.specs.Order.{comesBefore}
 use Rattle.rules.specs.Tick.{pending, holds, covers, chosen, ends, endsBadly, tick}
 use Rattle.rules.specs.Run.{start, afterReports, answered, allEndBy, endState, goesLater, waits, waited, longestLater}
@@ -40,7 +39,7 @@ use Rattle.run_laws.specs.Sections as Sections
 use Rattle.run_laws.specs.Waiting.{goesAfter, waitsAt, waitedTo, Waited, never, by, waited-says}
 use Rattle.run_laws.specs.Plans.{jobsOf, sectionsOf, ceilingsOf, chosen-by-rules}
 use Rattle.run_laws.specs.Facts.{Sound, check-sound, check-table, kinOf, sections-nest}
-use Rattle.run_laws.specs.States.{Good, stateAfter, good, reportIn, front-is, whole-is, waited-is, answered-is}
+use Rattle.run_laws.specs.States.{stateAfter, good, reportIn, front-is, whole-is, waited-is, answered-is}
 use Rattle.run_laws.specs.Ticks.{runOf, BadlyAt}
 use Rattle.run_laws.specs.AnyChoice.{
   ancestors-at,
@@ -71,7 +70,6 @@ use Rattle.run_laws.specs.Statement.{
   AllEnd,
   QuasiNormal,
   EndReached,
-  step,
   steps,
   WaitsBounded,
   WaitsForSection,

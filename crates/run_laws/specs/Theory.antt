@@ -1,14 +1,14 @@
 -- Runs as functions of the tick, under any choice that runs a job exactly if one is pending, runs a pending job, and starts
 -- only the first pending one: what stays true from tick to tick, and what follows on ancestors, idling and ends.
-use mathlib.Core.Path.{_≡_, refl, sym, _∙_, ap}
+use mathlib.Core.Path.{_≡_, refl, ap}
 use mathlib.Core.Logic.{_≢_}
-use mathlib.Core.Bool.{Bool, true, false}
+use mathlib.Core.Bool.{true}
 use mathlib.Core.Option.{Option, none, some}
 use Prim.Native.Nat.{ℕ, zero, suc, _+_, _≤_, _<_}
 use native.Mathlib.Decide.{ℕ-discrete, decLt, decLe}
 use native.Mathlib.Omega.{arith}
 use Rattle.rules.specs.Rows.{sum, largest}
-use Rattle.laws.specs.Rows.{sum-grows, sum-lt, sum-none, largest-at}
+use Rattle.laws.specs.Rows.{sum-grows, sum-lt, largest-at}
 
 -- ---- jobs, choices, runs
 

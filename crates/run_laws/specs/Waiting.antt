@@ -2,25 +2,36 @@
 -- job, while it is inside one section, in which it was before the release.
 use mathlib.Core.Path.{_≡_, refl, sym, _∙_, ap}
 use mathlib.Core.Logic.{_≢_, _⊎_, inl, inr, ⊎-elim}
-use mathlib.Core.Bool.{Bool, true, false, cond, _&&_}
+use mathlib.Core.Bool.{Bool, true, false, _&&_}
 use mathlib.Core.Option.{Option, none, some}
 use Prim.Native.Nat.{ℕ, zero, suc, _+_, _≤_, _<_}
 use native.Mathlib.Decide.{ℕ-discrete, decLt, decLe}
 use native.Mathlib.Omega.{arith}
-use lib.Dec.{ltb, leb, eqb}
+use lib.Dec.{eqb}
 use Rattle.rules.specs.Rows.{count}
-use Rattle.laws.specs.Tests.{Says, so, not-so, clash, lt-says, eq-says, says-map, says-and, says-yes, yes-says, yes-of, no-of}
+use Rattle.laws.specs.Tests.{
+  Says,
+  so,
+  not-so,
+  clash,
+  lt-says,
+  eq-says,
+  says-map,
+  says-and,
+  says-yes,
+  yes-says,
+  yes-of,
+  no-of,
+}
 use Rattle.laws.specs.Rows.{below-suc, count-none}
 use Rattle.run_laws.specs.Theory.{
   Jobs,
   Pending,
-  First,
   Run,
   idle-not,
   pending-in,
   in-table,
   grows,
-  grows-to,
   chosen-up,
   others-same,
   within,
@@ -29,7 +40,6 @@ use Rattle.run_laws.specs.Theory.{
 use Rattle.run_laws.specs.Sections.{
   Sections,
   Nested,
-  Holds,
   HoldsOn,
   held,
   held-same,
@@ -41,10 +51,8 @@ use Rattle.run_laws.specs.Sections.{
   after,
   after-yes,
   after-is,
-  FirstStarted,
   Detained,
   ByRules,
-  nobody,
   resumes,
   opens,
   detains,
