@@ -67,7 +67,10 @@ module _ (p : Plan) where
   -- The order of jobs is that of the keys.
   pub key-before : (i j : ℕ) → i < jobCount (p .table) → j < jobCount (p .table) → keyOf i < keyOf j → comesBefore p i j ≡ true
   key-before i j li lj l =
-      ⊎-elim (λ b. b) (λ b. absurd (omega (arith, before-key j i lj li b))) (before-total p i j (λ q. omega (arith, ap keyOf (rank-apart i j q))))
+      ⊎-elim
+      (λ b. b)
+      (λ b. absurd (omega (arith, before-key j i lj li b)))
+      (before-total p i j (λ q. omega (arith, ap keyOf (rank-apart i j q))))
 
   pub before-is : (i j : ℕ) → i < jobCount (p .table) → j < jobCount (p .table) → comesBefore p i j ≡ ltb (keyOf i) (keyOf j)
   before-is i j li lj =

@@ -158,8 +158,9 @@ module _ (p : Plan) (rows : RowsRight (p .table)) where
         ⊎-elim
         (λ w.
         let h = w .1 .holding in
-        let g : Pending jobsOf (st .tick) (executed st) (owner (p .table) (w .0)) = yes-says (pend-says jobsOf (st .tick) (executed st) (owner (p .table) (w .0))) (w .1 .who) in
-        clash (both-yes g (omega (arith, h .entered))) (n (owner (p .table) (w .0)) (pending-in jobsOf g)))
+        let o = owner (p .table) (w .0) in
+        let g : Pending jobsOf (st .tick) (executed st) o = yes-says (pend-says jobsOf (st .tick) (executed st) o) (w .1 .who) in
+        clash (both-yes g (omega (arith, h .entered))) (n o (pending-in jobsOf g)))
         (λ free.
         let nothing : Tick.held p st q ≡ 0
         = held-is q ∙ none-held sectionsOf (pend jobsOf (st .tick) (executed st)) (executed st) q free in

@@ -175,7 +175,8 @@ pub record Ceilings (J : Jobs) (Z : Sections) : Type 1 where
   -- what is true at d is true below d
   pub lower : {c d q h : ℕ} → c ≤ d → clears d q h → clears c q h
   -- a job that has a section on q, where q has no units left for it, does not clear q
-  pub cover : (s h : ℕ) → s < Z .many → total (Z .resource s) < h + Z .units s → clears (span (Z .owner s)) (Z .resource s) h → ⊥
+  pub cover : (s h : ℕ) → s < Z .many → total (Z .resource s) < h + Z .units s
+      → clears (span (Z .owner s)) (Z .resource s) h → ⊥
   -- a section lies in its job's ticks
   pub fits : (s : ℕ) → Z .to s ≤ J .cost (Z .owner s)
   -- of two jobs the one that comes before and is released no earlier has the smaller span
@@ -213,13 +214,15 @@ module _ (J : Jobs) (Z : Sections) (C : Ceilings J Z) where
   in-class (detains d) = runs (d .lead .ready) (λ z. absurd (omega (arith, d .lead .begun)))
 
   -- the chosen job comes before every other started pending one
-  pub chosen-leads : {t : ℕ} {e : ℕ → ℕ} {x : ℕ} → ByRules t e (some x) → (g : ℕ) → Pending J t e g → 0 < e g → g ≢ x → J .key x < J .key g
+  pub chosen-leads : {t : ℕ} {e : ℕ → ℕ} {x : ℕ} → ByRules t e (some x)
+      → (g : ℕ) → Pending J t e g → 0 < e g → g ≢ x → J .key x < J .key g
   chosen-leads (resumes f l) g p s n = f .leads g p n
   chosen-leads (opens f z c) g p s n = f .leads g p n
   chosen-leads (detains d) g p s n = d .lead .leads g p s n
 
   -- a chosen job that was not started has passed the test
-  passed : {t : ℕ} {e : ℕ → ℕ} {x : ℕ} → ByRules t e (some x) → e x ≡ 0 → (q : ℕ) → C .clears (C .span x) q (held Z (pend J t e) e q)
+  passed : {t : ℕ} {e : ℕ → ℕ} {x : ℕ} → ByRules t e (some x) → e x ≡ 0
+      → (q : ℕ) → C .clears (C .span x) q (held Z (pend J t e) e q)
   passed (resumes f l) z = absurd (omega arith)
   passed (opens f _ c) z = c
   passed (detains d) z = absurd (omega (arith, d .lead .begun))
@@ -235,6 +238,11 @@ module _ (J : Jobs) (Z : Sections) (C : Ceilings J Z) where
     -- who holds a section is started and unfinished
     pub holder-pending : {k s : ℕ} → Holds Z (R .e k) s → Pending J k (R .e k) (Z .owner s)
     holder-pending {k} {s} h = started-pending (omega (arith, h .entered)) (omega (arith, h .leaves, C .fits s))
+
+    -- so what is held at all is held by pending jobs
+    pub held-pending : {of : ℕ → Bool} {k q s : ℕ} → HoldsOn Z of (R .e k) q s → HoldsOn Z (pend J k (R .e k)) (R .e k) q s
+    held-pending {of} {k} {q} {s} h =
+        hold-on Z refl (says-yes (pend-says J k (R .e k) (Z .owner s)) (holder-pending (h .holding))) h
 
     -- while x is started and unfinished, jobs later than x stand still
     pub later-still : {k x j : ℕ} → 0 < R .e k x → R .e k x < J .cost x → J .key x < J .key j → R .e (suc k) j ≡ R .e k j
@@ -253,20 +261,22 @@ module _ (J : Jobs) (Z : Sections) (C : Ceilings J Z) where
         → held Z (after J x) (R .e (suc k)) q ≡ held Z (pend J k (R .e k)) (R .e k) q
     start-held k x q c z =
         held-same Z (after J x) (pend J k (R .e k)) (R .e (suc k)) (R .e k) q
-        (λ τ h. (let l = after-is J (h .who) in go τ (hold-on Z (sym (same τ (λ w. omega (arith, ap (J .key) w)))) (h .who) h)))
+        (λ τ h. (
+        let l = after-is J (h .who) in
+        let g : HoldsOn Z (after J x) (R .e k) q τ = hold-on Z (sym (same τ (λ w. omega (arith, ap (J .key) w)))) (h .who) h in
+        held-pending g
+        ))
         (λ τ h. back τ h (λ w. omega (arith, ap (R .e k) w, h .holding .entered)))
       where
         same : (τ : ℕ) → Z .owner τ ≢ x → R .e (suc k) (Z .owner τ) ≡ R .e k (Z .owner τ)
         same τ n = others-same J R (λ w. n (let y : x ≡ Z .owner τ = cc (c, w) in sym y))
 
-        go : (τ : ℕ) → HoldsOn Z (after J x) (R .e k) q τ → HoldsOn Z (pend J k (R .e k)) (R .e k) q τ
-        go τ h = hold-on Z refl (says-yes (pend-says J k (R .e k) (Z .owner τ)) (holder-pending (h .holding))) h
-
         back : (τ : ℕ) → HoldsOn Z (pend J k (R .e k)) (R .e k) q τ → Z .owner τ ≢ x → HoldsOn Z (after J x) (R .e (suc k)) q τ
         back τ h n = hold-on Z (same τ n) (after-yes J (chosen-first J R c z .leads (Z .owner τ) (holder-pending (h .holding)) n)) h
 
     -- Every started unfinished job clears each resource at what jobs later than it hold.
-    pub clear : (k x : ℕ) → 0 < R .e k x → R .e k x < J .cost x → (q : ℕ) → C .clears (C .span x) q (held Z (after J x) (R .e k) q)
+    pub clear : (k x : ℕ) → 0 < R .e k x → R .e k x < J .cost x
+        → (q : ℕ) → C .clears (C .span x) q (held Z (after J x) (R .e k) q)
     clear zero x s l q = absurd (omega (arith, R .starts x))
     clear (suc k) x s l q =
         elim (decLt 0 (R .e k x)) [
@@ -283,7 +293,8 @@ module _ (J : Jobs) (Z : Sections) (C : Ceilings J Z) where
 
     -- who has a section on a resource without units left for it, because of one that is held, does not clear it
     excludes : {of : ℕ → Bool} {e : ℕ → ℕ} {n s τ : ℕ} → HoldsOn Z of e (Z .resource s) τ → n < Z .to s
-        → C .total (Z .resource s) < Z .units s + Z .units τ → C .clears (C .span (Z .owner s)) (Z .resource s) (held Z of e (Z .resource s))
+        → C .total (Z .resource s) < Z .units s + Z .units τ
+        → C .clears (C .span (Z .owner s)) (Z .resource s) (held Z of e (Z .resource s))
         → ⊥
     excludes {of} {e} {n} {s} {τ} h l t =
         C .cover s (held Z of e (Z .resource s)) (listed Z l) (omega (arith, held-counts Z of e (Z .resource s) τ h))
@@ -337,7 +348,8 @@ module _ (J : Jobs) (Z : Sections) (C : Ceilings J Z) where
                   elim (decLt (J .key (Z .owner τ)) (J .key (Z .owner s))) [
                     | yes m ↦ two-hold r u m g h
                     | no m ↦
-                        q (J .apart (Z .owner s) (Z .owner τ) (pending-in J (holder-pending h)) (pending-in J (holder-pending g)) (omega arith))
+                        q (J .apart (Z .owner s) (Z .owner τ)
+                        (pending-in J (holder-pending h)) (pending-in J (holder-pending g)) (omega arith))
                   ]
             ]
         go q (holding h) (covered c f l) = runs-holds r u c l q h

@@ -223,7 +223,10 @@ module _ (p : Plan) (S : Sound p) where
         ≡ cond (allFinished p (at n)) (refused (fault 13 0)) (steps p (at (suc n)) rest)
     unfolding tick stateAfter
     next-is n l rest =
-        ap (λ f. andThen (unless f (tick p (at n) (reportIn reports n))) (λ next. steps p next rest)) (step-at p S (chosen p) class (reportIn reports) n l) ∙ go (allFinished p (at n))
+        ap
+        (λ f. andThen (unless f (tick p (at n) (reportIn reports n))) (λ next. steps p next rest))
+        (step-at p S (chosen p) class (reportIn reports) n l)
+        ∙ go (allFinished p (at n))
       where
         go : (b : Bool)
             → andThen (unless (cond b (some (fault 13 0)) none) (tick p (at n) (reportIn reports n))) (λ next. steps p next rest)

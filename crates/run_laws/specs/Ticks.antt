@@ -65,7 +65,7 @@ module _ (p : Plan) (S : Sound p) where
       go
       (says-or
       (bool-says (endsBadly p st x silent))
-      (any-says _ _ (λ i. precedes (p .table) i x && _) (λ i. says-and (bool-says (precedes (p .table) i x)) (eq-says (mark st i) 2)) (jobCount (p .table))))
+      (any-says _ _ _ (λ i. says-and (bool-says (precedes (p .table) i x)) (eq-says (mark st i) 2)) (jobCount (p .table))))
       e
     where
       go : {b : Bool}
@@ -100,7 +100,11 @@ module _ (p : Plan) (S : Sound p) where
           (λ j n. getD-set-other (st .marks) x j (markFor (endsStale p st x silent)) 0 n)
           (omega (arith, getD-set-same (st .finish) x (st .tick + 1) 0 (omega (arith, g .finish-long)), g .tick-is))
           (λ j n. getD-set-other (st .finish) x j (st .tick + 1) 0 n)
-      go (not-so n) = nothing (λ y (q : some x ≡ some y) e. n (let w : x ≡ y = cc in omega (arith, ap (executed st) w, ap (cost (p .table)) w))) (λ j. refl) (λ j. refl)
+      go (not-so n) =
+          nothing
+          (λ y (q : some x ≡ some y) e. n (let w : x ≡ y = cc in omega (arith, ap (executed st) w, ap (cost (p .table)) w)))
+          (λ j. refl)
+          (λ j. refl)
 
   -- ---- many ticks
 

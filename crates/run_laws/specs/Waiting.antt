@@ -59,6 +59,7 @@ use Rattle.run_laws.specs.Sections.{
   rule-of,
   started-pending,
   holder-pending,
+  held-pending,
   clear,
 }
 
@@ -87,7 +88,11 @@ module _ (J : Jobs) (Z : Sections) (C : Ceilings J Z) (R : Run J) (rules : (k : 
 
     blocker-holds : Within k x
     unfolding is-x
-    blocker-holds = ⊎-elim (λ w. found (w .0) (w .1) (yes-says (eq-says (Z .owner (w .0)) x) (w .1 .who))) (λ n. absurd (go n)) (holders Z is-x (R .e k) (d .on))
+    blocker-holds =
+        ⊎-elim
+        (λ w. found (w .0) (w .1) (yes-says (eq-says (Z .owner (w .0)) x) (w .1 .who)))
+        (λ n. absurd (go n))
+        (holders Z is-x (R .e k) (d .on))
       where
         found : (s : ℕ) → HoldsOn Z is-x (R .e k) (d .on) s → Z .owner s ≡ x → Within k x
         found s h o =
@@ -98,12 +103,16 @@ module _ (J : Jobs) (Z : Sections) (C : Ceilings J Z) (R : Run J) (rules : (k : 
               leaves = omega (arith, h .holding .leaves, ap (R .e k) o);
             }
 
+        later : (s : ℕ) → HoldsOn Z (pend J k (R .e k)) (R .e k) (d .on) s → Z .owner s ≢ x → J .key x < J .key (Z .owner s)
+        later s h =
+            d .lead .leads (Z .owner s) (holder-pending J Z C R rules (h .holding)) (omega (arith, h .holding .entered))
+
         all-later : ((s : ℕ) → HoldsOn Z is-x (R .e k) (d .on) s → ⊥)
             → held Z (after J x) (R .e k) (d .on) ≡ held Z (pend J k (R .e k)) (R .e k) (d .on)
         all-later n =
             held-same Z (after J x) (pend J k (R .e k)) (R .e k) (R .e k) (d .on)
-            (λ s h. hold-on Z refl (says-yes (pend-says J k (R .e k) (Z .owner s)) (holder-pending J Z C R rules (h .holding))) h)
-            (λ s h. hold-on Z refl (after-yes J (d .lead .leads (Z .owner s) (holder-pending J Z C R rules (h .holding)) (omega (arith, h .holding .entered)) (λ q. n s (hold-on Z refl (yes-of (eq-says (Z .owner s) x) (λ m. m q)) h)))) h)
+            (λ s h. held-pending J Z C R rules h)
+            (λ s h. hold-on Z refl (after-yes J (later s h (λ q. n s (hold-on Z refl (yes-of (eq-says (Z .owner s) x) (λ m. m q)) h)))) h)
 
         go : ((s : ℕ) → HoldsOn Z is-x (R .e k) (d .on) s → ⊥) → ⊥
         go n =
@@ -284,7 +293,8 @@ module _ (J : Jobs) (Z : Sections) (C : Ceilings J Z) (R : Run J) (rules : (k : 
         no-second u n =
             d .stuck
             (C .lower
-            (level (d .head .ready) (omega (arith, ahead, u .blocker .behind)) begun (in-table J (omega (arith, begun, within J R b (u .who)))))
+            (level (d .head .ready) (omega (arith, ahead, u .blocker .behind)) begun
+            (in-table J (omega (arith, begun, within J R b (u .who)))))
             (rw held-now at (u .blocker .clearing (d .on))))
           where
             x-before : R .e b x ≡ R .e a x
@@ -292,7 +302,8 @@ module _ (J : Jobs) (Z : Sections) (C : Ceilings J Z) (R : Run J) (rules : (k : 
 
             nearer : J .key (u .who) < J .key x
             nearer =
-                u .blocker .nearest x l (λ q. n (sym q)) (omega (arith, x-before, d .lead .begun)) (omega (arith, x-before, d .lead .ready .unfinished))
+                u .blocker .nearest x l (λ q. n (sym q))
+                (omega (arith, x-before, d .lead .begun)) (omega (arith, x-before, d .lead .ready .unfinished))
 
             begun : 0 < R .e b (u .who)
             begun = omega (arith, u .entered, u .number)
@@ -310,7 +321,8 @@ module _ (J : Jobs) (Z : Sections) (C : Ceilings J Z) (R : Run J) (rules : (k : 
             held-now =
                 held-same Z (after J (u .who)) (pend J b (R .e b)) (R .e a) (R .e b) (d .on)
                 (λ s h. then s h (u .still (Z .owner s) (omega (arith, after-is J (h .who), u .blocker .behind)) (apart-from s h)))
-                (λ s h. now s h (λ q. omega (arith, ended, holder-pending J Z C R rules (h .holding) .unfinished, ap (R .e b) q, ap (J .cost) q)))
+                (λ s h. now s h (λ q.
+                omega (arith, ended, holder-pending J Z C R rules (h .holding) .unfinished, ap (R .e b) q, ap (J .cost) q)))
               where
                 apart-from : (s : ℕ) → HoldsOn Z (after J (u .who)) (R .e a) (d .on) s → Z .owner s ≢ u .who
                 apart-from s h q = omega (arith, after-is J (h .who), ap (J .key) q)
@@ -319,7 +331,7 @@ module _ (J : Jobs) (Z : Sections) (C : Ceilings J Z) (R : Run J) (rules : (k : 
                     → HoldsOn Z (pend J b (R .e b)) (R .e b) (d .on) s
                 then s h e =
                     let g : HoldsOn Z (after J (u .who)) (R .e b) (d .on) s = hold-on Z e (h .who) h in
-                    hold-on Z refl (says-yes (pend-says J b (R .e b) (Z .owner s)) (holder-pending J Z C R rules (g .holding))) g
+                    held-pending J Z C R rules g
 
                 now : (s : ℕ) → HoldsOn Z (pend J b (R .e b)) (R .e b) (d .on) s → Z .owner s ≢ u .who
                     → HoldsOn Z (after J (u .who)) (R .e a) (d .on) s
@@ -350,7 +362,11 @@ module _ (J : Jobs) (Z : Sections) (C : Ceilings J Z) (R : Run J) (rules : (k : 
                     | no q ↦ absurd (no-second x c l d u q)
                   ]
 
-          go : {o : Bool} → Says ((x : ℕ) × (R .pick b ≡ some x) × (J .key j < J .key x)) ((x : ℕ) → R .pick b ≡ some x → J .key x ≤ J .key j) o
+          go : {o : Bool}
+              → Says
+              ((x : ℕ) × (R .pick b ≡ some x) × (J .key j < J .key x))
+              ((x : ℕ) → R .pick b ≡ some x → J .key x ≤ J .key j)
+              o
               → Delay j a b → Delay j a (suc b)
           go (so w) u = runs-later (w .0) (w .1) (w .2) u
           go (not-so n) u =
@@ -380,7 +396,8 @@ module _ (J : Jobs) (Z : Sections) (C : Ceilings J Z) (R : Run J) (rules : (k : 
     -- and are fewer than that section's.
     pub data Waited (j b : ℕ) : Type 0 where
       never : waitedTo j b ≡ 0 → ((s : ℕ) → s < b → waitsAt j s ≡ false) → Waited j b
-      by : (section : ℕ) → j < J .count → J .key j < J .key (Z .owner section) → waitedTo j b + Z .from section < Z .to section
+      by : (section : ℕ) → j < J .count → J .key j < J .key (Z .owner section)
+          → waitedTo j b + Z .from section < Z .to section
           → ((s : ℕ) → s < b → waitsAt j s ≡ true → R .pick s ≡ some (Z .owner section)) → Waited j b
 
     told : {j a b : ℕ} → j < J .count → Delay j a b → Waited j b
