@@ -23,7 +23,7 @@ use Rattle.run_laws.specs.Theorems.{
   never-idle,
   all-end,
   steps-are-ticks,
-  whole-quasi-normal,
+  quasi-normal,
   end-reached,
 }
 
@@ -114,5 +114,5 @@ at-p1 =
       end-at-7 = refl;
       end-in-time = end-reached p1 p1-plan p1-accepted .1;
       tick-4-of-1 = refl;
-      due-before = whole-quasi-normal p1 p1-plan p1-accepted all-answered 4 6 2 1 (omega arith) (omega arith) refl refl (omega arith);
+      due-before = quasi-normal p1 p1-plan p1-accepted all-answered 4 6 2 1 (omega arith) (omega arith) refl refl (omega arith);
     }

@@ -50,7 +50,7 @@ sharing = record { jobs = 0 ∷ 1 ∷ 1 ∷ 0 ∷ 1 ∷ 1 ∷ []; arcs = []; sec
 
 -- job 0 holds resource 0 when job 1 is released
 unfoldable pub held-up : Table
-held-up = record { jobs = 0 ∷ 2 ∷ 4 ∷ 1 ∷ 1 ∷ 2 ∷ []; arcs = []; sections = 0 ∷ 0 ∷ 0 ∷ 2 ∷ 1 ∷ 0 ∷ 0 ∷ 1 ∷ [] }
+held-up = record { jobs = 0 ∷ 2 ∷ 3 ∷ 1 ∷ 1 ∷ 2 ∷ []; arcs = []; sections = 0 ∷ 0 ∷ 0 ∷ 2 ∷ 1 ∷ 0 ∷ 0 ∷ 1 ∷ [] }
 
 -- job 1, of an earlier deadline and a lower level than job 2, is the one held up
 unfoldable pub behind : Table

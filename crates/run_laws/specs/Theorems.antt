@@ -358,8 +358,8 @@ steps-are-ticks t p c reports =
     (λ l. rw (whole-is p reports) (step-at p S (chosen p) (class p S) (reportIn reports) (length reports) l), steps-are p S reports)
 
 -- 003, definition 3.3
-pub whole-quasi-normal : QuasiNormal
-whole-quasi-normal t p c reports m n i j l e a b r =
+pub quasi-normal : QuasiNormal
+quasi-normal t p c reports m n i j l e a b r =
     quasi-at p (check-sound t p c) (chosen p) (class p (check-sound t p c)) (reportIn reports) m n i j l
     (rw (front-is p reports m (omega arith)) at a) (rw (front-is p reports n e) at b) r
 
