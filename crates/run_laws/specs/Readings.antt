@@ -52,7 +52,7 @@ sharing = record { jobs = 0 ∷ 1 ∷ 1 ∷ 0 ∷ 1 ∷ 1 ∷ []; arcs = []; sec
 unfoldable pub held-up : Table
 held-up = record { jobs = 0 ∷ 2 ∷ 3 ∷ 1 ∷ 1 ∷ 2 ∷ []; arcs = []; sections = 0 ∷ 0 ∷ 0 ∷ 2 ∷ 1 ∷ 0 ∷ 0 ∷ 1 ∷ [] }
 
--- job 1, of an earlier deadline and a lower level than job 2, is the one held up
+-- job 1, which comes before job 2 and has the larger relative deadline, is the one held up
 unfoldable pub behind : Table
 behind = record { jobs = 0 ∷ 3 ∷ 4 ∷ 1 ∷ 1 ∷ 3 ∷ 2 ∷ 1 ∷ 3 ∷ []; arcs = []; sections = 0 ∷ 0 ∷ 0 ∷ 3 ∷ 1 ∷ 0 ∷ 0 ∷ 1 ∷ [] }
 
