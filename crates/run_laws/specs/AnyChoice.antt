@@ -42,10 +42,85 @@ use Rattle.run_laws.specs.Theory.{
   unfinished-before,
 }
 use Rattle.run_laws.specs.Marks.{Kin, Marks, EndedBadly, Marked, unmarked, fresh, stale, marked, finish-by}
+use Rattle.laws.specs.Refusals.{RowsRight}
 use Rattle.run_laws.specs.Plans.{jobsOf}
 use Rattle.run_laws.specs.Facts.{Sound, forward, kinOf}
 use Rattle.run_laws.specs.States.{stateAfter, good}
 use Rattle.run_laws.specs.Ticks.{runOf, marksOf, BadlyAt}
+
+-- ---- idling and ends: any plan with right rows
+
+module _ (p : Plan) (rows : RowsRight (p .table)) where
+  abbrev JR : Jobs
+  JR = jobsOf p rows
+
+  finished-says : (st : State) (j : ℕ) → Says (executed st j ≡ cost (p .table) j) (executed st j ≢ cost (p .table) j) (finished p st j)
+  finished-says st j = eq-says (executed st j) (cost (p .table) j)
+
+  module _ (ch : State → Option ℕ) (class : (st : State) → Choice JR (st .tick) (executed st) (ch st)) (report : ℕ → Bool) where
+    abbrev on : ℕ → State
+    on k = stateAfter p ch report k
+
+    abbrev RR : Run JR
+    RR = runOf p rows ch class report
+
+    is-finished : (k j : ℕ) → cost (p .table) j ≤ executed (on k) j → finished p (on k) j ≡ true
+    is-finished k j l = yes-of (finished-says (on k) j) (λ n. n (let w = within JR RR k j in omega arith))
+
+    -- A tick is idle exactly if no released job is unfinished.
+    pub idle-at : (k : ℕ) → (ch (on k) ≡ none) ↔ ((j : ℕ) → modifiedRelease p j ≤ (on k) .tick → finished p (on k) j ≡ true)
+    idle-at k = (go, back)
+      where
+        go : ch (on k) ≡ none → (j : ℕ) → modifiedRelease p j ≤ (on k) .tick → finished p (on k) j ≡ true
+        go c j l =
+            is-finished k j
+            (elim (decLe (cost (p .table) j) (executed (on k) j)) [
+              | yes h ↦ h
+              | no h ↦
+                  absurd
+                  (idle-none JR RR k c j
+                  (record { released = omega (arith, good p ch report k .tick-is); unfinished = omega arith }))
+            ])
+
+        back : ((j : ℕ) → modifiedRelease p j ≤ (on k) .tick → finished p (on k) j ≡ true) → ch (on k) ≡ none
+        back h = out (ch (on k)) refl
+          where
+            out : (o : Option ℕ) → ch (on k) ≡ o → o ≡ none
+            out none c = refl
+            out (some x) c =
+                let w = chosen-pending JR RR {k = k} {x = x} c in
+                absurd
+                (omega (
+                  arith,
+                  w .unfinished,
+                  yes-says (finished-says (on k) x)
+                      (h x (omega (arith, w .released, good p ch report k .tick-is))),
+                ))
+
+    unfinished-at : (k j : ℕ) → executed (on k) j < cost (p .table) j → k < allEndBy p
+    unfolding allEndBy
+    unfinished-at = unfinished-before JR RR
+
+    -- All end by the last release plus the sum of costs; no finish is later.
+    pub all-ended-at : (k : ℕ) → allEndBy p ≤ k → (j : ℕ) → finished p (on k) j ≡ true
+    all-ended-at k l j =
+        is-finished k j
+        (elim (decLe (cost (p .table) j) (executed (on k) j)) [
+          | yes h ↦ h
+          | no h ↦ absurd (omega (arith, unfinished-at k j (omega arith)))
+        ])
+
+    pub all-finished-by : (k : ℕ) → allEndBy p ≤ k → allFinished p (on k) ≡ true
+    unfolding allFinished
+    all-finished-by k l = all-from (finished p (on k)) (jobCount (p .table)) (λ j h. all-ended-at k l j)
+
+    pub some-left : (k : ℕ) → allFinished p (on k) ≡ false → k < allEndBy p
+    unfolding allFinished
+    some-left k e =
+        let w = no-says (all-says _ _ (finished p (on k)) (finished-says (on k)) (jobCount (p .table))) e in
+        unfinished-at k (w .0) (let b = within JR RR k (w .0) in omega (arith, w .2))
+
+-- ---- ancestors, marks, steps: the plan of an accepted table
 
 module _ (p : Plan) (S : Sound p) where
   abbrev J : Jobs
@@ -54,16 +129,13 @@ module _ (p : Plan) (S : Sound p) where
   abbrev K : Kin J
   K = kinOf p S
 
-  finished-says : (st : State) (j : ℕ) → Says (executed st j ≡ cost (p .table) j) (executed st j ≢ cost (p .table) j) (finished p st j)
-  finished-says st j = eq-says (executed st j) (cost (p .table) j)
-
   module _ (ch : State → Option ℕ) (class : (st : State) → Choice J (st .tick) (executed st) (ch st)) (report : ℕ → Bool) where
     -- after k ticks of the run, who ended badly, and the marks
     abbrev at : ℕ → State
     at k = stateAfter p ch report k
 
     abbrev R : Run J
-    R = runOf p S ch class report
+    R = runOf p (S .rows) ch class report
 
     abbrev BadAt : ℕ → ℕ → Type 0
     BadAt = BadlyAt p S ch class report
@@ -71,67 +143,11 @@ module _ (p : Plan) (S : Sound p) where
     abbrev M : Marks J K R BadAt
     M = marksOf p S ch class report
 
-    is-finished : (k j : ℕ) → cost (p .table) j ≤ executed (at k) j → finished p (at k) j ≡ true
-    is-finished k j l = yes-of (finished-says (at k) j) (λ n. n (let w = within J R k j in omega arith))
-
     -- What is chosen has no unfinished ancestor.
     pub ancestors-at : (k i j : ℕ) → ch (at k) ≡ some j → Ancestor (p .table) i j → finished p (at k) i ≡ true
     ancestors-at k i j c a =
         let h = forward p S a in
-        is-finished k i (earlier-finished J R k i j c (h .0) (h .1))
-
-    -- A tick is idle exactly if no released job is unfinished.
-    pub idle-at : (k : ℕ) → (ch (at k) ≡ none) ↔ ((j : ℕ) → modifiedRelease p j ≤ (at k) .tick → finished p (at k) j ≡ true)
-    idle-at k = (go, back)
-      where
-        go : ch (at k) ≡ none → (j : ℕ) → modifiedRelease p j ≤ (at k) .tick → finished p (at k) j ≡ true
-        go c j l =
-            is-finished k j
-            (elim (decLe (cost (p .table) j) (executed (at k) j)) [
-              | yes h ↦ h
-              | no h ↦
-                  absurd
-                  (idle-none J R k c j
-                  (record { released = omega (arith, good p ch report k .tick-is); unfinished = omega arith }))
-            ])
-
-        back : ((j : ℕ) → modifiedRelease p j ≤ (at k) .tick → finished p (at k) j ≡ true) → ch (at k) ≡ none
-        back h = out (ch (at k)) refl
-          where
-            out : (o : Option ℕ) → ch (at k) ≡ o → o ≡ none
-            out none c = refl
-            out (some x) c =
-                let w = chosen-pending J R {k = k} {x = x} c in
-                absurd
-                (omega (
-                  arith,
-                  w .unfinished,
-                  yes-says (finished-says (at k) x)
-                      (h x (omega (arith, w .released, good p ch report k .tick-is))),
-                ))
-
-    unfinished-at : (k j : ℕ) → executed (at k) j < cost (p .table) j → k < allEndBy p
-    unfolding allEndBy
-    unfinished-at = unfinished-before J R
-
-    -- All end by the last release plus the sum of costs; no finish is later.
-    pub all-ended-at : (k : ℕ) → allEndBy p ≤ k → (j : ℕ) → finished p (at k) j ≡ true
-    all-ended-at k l j =
-        is-finished k j
-        (elim (decLe (cost (p .table) j) (executed (at k) j)) [
-          | yes h ↦ h
-          | no h ↦ absurd (omega (arith, unfinished-at k j (omega arith)))
-        ])
-
-    pub all-finished-by : (k : ℕ) → allEndBy p ≤ k → allFinished p (at k) ≡ true
-    unfolding allFinished
-    all-finished-by k l = all-from (finished p (at k)) (jobCount (p .table)) (λ j h. all-ended-at k l j)
-
-    pub some-left : (k : ℕ) → allFinished p (at k) ≡ false → k < allEndBy p
-    unfolding allFinished
-    some-left k e =
-        let w = no-says (all-says _ _ (finished p (at k)) (finished-says (at k)) (jobCount (p .table))) e in
-        unfinished-at k (w .0) (let b = within J R k (w .0) in omega (arith, w .2))
+        is-finished p (S .rows) ch class report k i (earlier-finished J R k i j c (h .0) (h .1))
 
     pub finish-at : (k j : ℕ) → finish (at k) j ≤ allEndBy p
     unfolding allEndBy
@@ -146,7 +162,7 @@ module _ (p : Plan) (S : Sound p) where
         go : Marked J K R BadAt M k j
             → ((mark (at k) j ≡ 1) ⊎ (mark (at k) j ≡ 2))
             × ((mark (at k) j ≡ 2) ↔ ((i : ℕ) × ((i ≡ j) ⊎ Ancestor (p .table) i j) × EndedBadly J K R BadAt k i))
-        go (unmarked v u) = absurd (omega (arith, yes-says (finished-says (at k) j) f))
+        go (unmarked v u) = absurd (omega (arith, yes-says (finished-says p (S .rows) (at k) j) f))
         go (fresh v d sound) = (inl v, ((λ e. absurd (omega arith)), (λ w. absurd (sound (w .0) (w .1) (w .2)))))
         go (stale v d i a b) = (inr v, ((λ e. (i, a, b)), (λ w. v)))
 
@@ -213,4 +229,4 @@ module _ (p : Plan) (S : Sound p) where
     -- it is before the last tick, if some job was unfinished before each of the ticks so far
     pub unended-early : (n : ℕ) → ((i : ℕ) → i < n → allFinished p (at i) ≡ false) → n < lastTick
     unended-early zero h = omega arith
-    unended-early (suc n) h = omega (arith, some-left n (h n (omega arith)), end-early)
+    unended-early (suc n) h = omega (arith, some-left p (S .rows) ch class report n (h n (omega arith)), end-early)

@@ -8,7 +8,7 @@ use Prim.Native.Nat.{ℕ, _-_, _≤_}
 use native.Mathlib.Omega.{arith}
 use lib.ListN.{take}
 use Rattle.rules.specs.Table.{precedes, modifiedDeadline, mark, finish}
-use Rattle.rules.specs.Refusals.{gives, refused, fault, check, finished, stepFault}
+use Rattle.rules.specs.Refusals.{gives, refused, fault, check, planInBounds, finished, stepFault}
 use Rattle.rules.specs.Tick.{holds, covers, chosen, ends}
 use Rattle.rules.specs.Run.{start, afterReports, allEndBy, endState, waited, longestLater}
 use Rattle.rules.specs.Examples.{p1, p1-plan, all-answered, tick-5-silent}
@@ -26,6 +26,10 @@ use Rattle.run_laws.specs.Theorems.{
   quasi-normal,
   end-reached,
 }
+
+pub p1-in-bounds : planInBounds p1-plan ≡ true
+unfolding planInBounds p1-plan
+p1-in-bounds = refl
 
 -- P1 is accepted.
 pub p1-accepted : check p1 ≡ gives p1-plan
@@ -71,7 +75,7 @@ pub record AtP1 : Type 0 where
   pub eight-steps : steps p1-plan (start p1-plan) (false ∷ all-answered) ≡ refused (fault 13 0)
   -- the program's end state is the one after these seven
   pub end-at-7 : endState p1-plan ≡ afterReports p1-plan all-answered
-  pub end-in-time : end-reached p1 p1-plan p1-accepted .0 ≤ 9
+  pub end-in-time : end-reached p1-plan p1-in-bounds .0 ≤ 9
   -- 003, definition 3.3: job 1 has a tick before job 2, released with it, and an earlier deadline
   pub tick-4-of-1 : chosen p1-plan (stateAt p1-plan all-answered 4) ≡ some 1
   pub due-before : modifiedDeadline p1-plan 1 ≤ modifiedDeadline p1-plan 2
@@ -112,7 +116,7 @@ at-p1 =
       eighth-step = steps-are-ticks p1 p1-plan p1-accepted all-answered .0 (omega arith);
       eight-steps = steps-are-ticks p1 p1-plan p1-accepted (false ∷ all-answered) .1;
       end-at-7 = refl;
-      end-in-time = end-reached p1 p1-plan p1-accepted .1;
+      end-in-time = end-reached p1-plan p1-in-bounds .1;
       tick-4-of-1 = refl;
       due-before = quasi-normal p1 p1-plan p1-accepted all-answered 4 6 2 1 (omega arith) (omega arith) refl refl (omega arith);
     }

@@ -23,6 +23,7 @@ use Rattle.rules.specs.Table.{
   finish,
 }
 use Rattle.rules.specs.Refusals.{
+  planInBounds,
   Outcome,
   refused,
   gives,
@@ -170,10 +171,10 @@ QuasiNormal =
     → modifiedRelease p i ≤ modifiedRelease p j → modifiedDeadline p j ≤ modifiedDeadline p i
 
 -- The state to which the program runs, every report answered until all have finished, is the run's first one in which all
--- have finished, and comes by (f)'s tick.
+-- have finished, and comes by (f)'s tick; this of every plan within its bounds.
 abbrev pub EndReached : Type 0
 EndReached =
-    (t : Table) (p : Plan) → check t ≡ gives p
+    (p : Plan) → planInBounds p ≡ true
     → (n : ℕ) × (n ≤ allEndBy p)
     × (endState p ≡ afterReports p (replicate n false))
     × (allFinished p (afterReports p (replicate n false)) ≡ true)

@@ -34,6 +34,7 @@ use Rattle.laws.specs.Rows.{below-suc, count-ext, largest-at, any-none, any-fro
 use Rattle.laws.specs.Keys.{key-before, before-is}
 use Rattle.run_laws.specs.Theory.{Jobs, Pending, Choice, Run, chosen-pending, pending-in}
 use Rattle.run_laws.specs.Marks.{Kin, EndedBadly}
+use Rattle.laws.specs.Refusals.{RowsRight, bounds-rows}
 use Rattle.run_laws.specs.Sections.{Sections, Ceilings, ByRules, in-class, listed, pend, pend-says}
 use Rattle.run_laws.specs.Sections as Sections
 use Rattle.run_laws.specs.Waiting.{goesAfter, waitsAt, waitedTo, Waited, never, by, waited-says}
@@ -76,6 +77,10 @@ use Rattle.run_laws.specs.Statement.{
   StepsAreTicks,
 }
 
+-- rules 1 to 4 are a choice of the class
+by-rules : (p : Plan) (rows : RowsRight (p .table)) (st : State) → Choice (jobsOf p rows) (st .tick) (executed st) (chosen p st)
+by-rules p rows st = in-class (jobsOf p rows) (sectionsOf p rows) (ceilingsOf p rows) (chosen-by-rules p rows st)
+
 -- ---- the run of a sound plan, by the rules
 
 module _ (p : Plan) (S : Sound p) where
@@ -91,9 +96,8 @@ module _ (p : Plan) (S : Sound p) where
   abbrev K : Kin J
   K = kinOf p S
 
-  -- rules 1 to 4 are a choice of the class
   class : (st : State) → Choice J (st .tick) (executed st) (chosen p st)
-  class st = in-class J Z C (chosen-by-rules p (S .rows) st)
+  class st = by-rules p (S .rows) st
 
   module _ (reports : List Bool) where
     -- after k ticks of the run
@@ -101,7 +105,7 @@ module _ (p : Plan) (S : Sound p) where
     at k = stateAfter p (chosen p) (reportIn reports) k
 
     abbrev R : Run J
-    R = runOf p S (chosen p) class (reportIn reports)
+    R = runOf p (S .rows) (chosen p) class (reportIn reports)
 
     abbrev BadAt : ℕ → ℕ → Type 0
     BadAt = BadlyAt p S (chosen p) class (reportIn reports)
@@ -268,8 +272,9 @@ module _ (p : Plan) (S : Sound p) where
         )
         (steps-from (length reports) 0 (omega arith) (λ i l. absurd (omega arith)))
 
-  -- ---- the end, every report answered
+-- ---- the end, every report answered: any plan with right rows
 
+module _ (p : Plan) (rows : RowsRight (p .table)) where
   abbrev quiet : ℕ → State
   quiet k = stateAfter p (chosen p) (λ i. false) k
 
@@ -278,7 +283,7 @@ module _ (p : Plan) (S : Sound p) where
       → (n : ℕ) × (n ≤ allEndBy p) × (answered p m (quiet k) ≡ quiet n)
       × (allFinished p (quiet n) ≡ true) × ((i : ℕ) → i < n → allFinished p (quiet i) ≡ false)
   unfolding answered tick stateAfter
-  end-from zero k e h = (k, omega arith, refl, all-finished-by p S (chosen p) class (λ i. false) k (omega arith), h)
+  end-from zero k e h = (k, omega arith, refl, all-finished-by p rows (chosen p) (by-rules p rows) (λ i. false) k (omega arith), h)
   end-from (suc m) k e h = go (tested (allFinished p (quiet k))) (end-from m (suc k) (omega arith))
     where
       End : State → Type 0
@@ -337,7 +342,7 @@ waits-bounded t p c reports j =
 pub never-idle : NeverIdle
 never-idle t p c reports =
     let S = check-sound t p c in
-    rw (whole-is p reports) (idle-at p S (chosen p) (class p S) (reportIn reports) (length reports))
+    rw (whole-is p reports) (idle-at p (S .rows) (chosen p) (class p S) (reportIn reports) (length reports))
 
 -- (f)
 pub all-end : AllEnd
@@ -346,9 +351,9 @@ all-end t p c reports =
     let n = length reports in
     let g = good p (chosen p) (reportIn reports) n in
     rw (whole-is p reports) (
-      all-ended-at p S (chosen p) (class p S) (reportIn reports) n,
+      all-ended-at p (S .rows) (chosen p) (class p S) (reportIn reports) n,
       finish-at p S (chosen p) (class p S) (reportIn reports) n,
-      λ e. omega (arith, some-left p S (chosen p) (class p S) (reportIn reports) n e, g .tick-is),
+      λ e. omega (arith, some-left p (S .rows) (chosen p) (class p S) (reportIn reports) n e, g .tick-is),
     )
 
 -- the entry's steps
@@ -366,8 +371,8 @@ quasi-normal t p c reports m n i j l e a b r =
 -- the end state
 pub end-reached : EndReached
 unfolding endState stateAfter
-end-reached t p c =
-    let (n, l, e, f, h) = end-from p (check-sound t p c) (allEndBy p) 0 (omega arith) (λ i g. absurd (omega arith)) in (
+end-reached p b =
+    let (n, l, e, f, h) = end-from p (bounds-rows p b .0) (allEndBy p) 0 (omega arith) (λ i g. absurd (omega arith)) in (
       n,
       l,
       e ∙ sym (answered-is p n),
