@@ -28,29 +28,12 @@ use Rattle.rules.specs.Refusals.{
 }
 use Rattle.laws.specs.Tests.{bool-says, eq-says, le-says, lt-says, says-and, yes-says, no-says}
 use Rattle.laws.specs.Rows.{all-at}
-use Rattle.laws.specs.Refusals.{RowsRight, all-none, demand-none, rows-right}
+use Rattle.laws.specs.Refusals.{all-none, demand-none, bounds-rows}
 use Rattle.dispatch.specs.Lists.{plan, timed, state, at, ArcsFit, SectionsFit, Same, Fit, Bounded}
 
 -- A plan and a state of it are within their bounds.
 unfoldable pub inBounds : Plan → State → Bool
 inBounds p st = planInBounds p && stateInBounds p st
-
--- ---- what a plan within its bounds is known to be
-
-accepted-none : (o : Option Fault) → accepted o ≡ true → o ≡ none
-accepted-none none e = refl
-accepted-none (some f) e = let z : _≡_ {A = ℕ} 0 1 = cc in absurd (omega arith)
-
-pub plan-rows : (p : Plan) → planInBounds p ≡ true → RowsRight (p .table) × (length (p .times) ≡ 2 * jobCount (p .table))
-unfolding planInBounds
-plan-rows p e =
-    let (a, b) =
-    yes-says
-    (says-and
-    (bool-says (accepted (firstOf (countFaults (p .table) ++ rowFaults (p .table)))))
-    (says-and (eq-says (length (p .times)) (2 * jobCount (p .table))) (bool-says (all (timesRight p) (jobCount (p .table))))))
-    e in
-    (rows-right (p .table) (accepted-none (firstOf (countFaults (p .table) ++ rowFaults (p .table))) a), b .0)
 
 -- ---- the judgement before a step, each way out
 
@@ -98,7 +81,7 @@ module _ (jobs arcs sections times : List ℕ) (t : ℕ) (e m f : List ℕ) wher
   pub plan-fit : planInBounds (plan jobs arcs sections times) ≡ true
       → length e ≡ length jobs / 3 → length m ≡ length jobs / 3 → length f ≡ length jobs / 3 → Fit jobs arcs sections times e m f
   plan-fit a x y z =
-      let (r, pairs) = plan-rows (plan jobs arcs sections times) a in
+      let (r, pairs) = bounds-rows (plan jobs arcs sections times) a in
       record {
         lists = record { by-job = omega (arith, r .jobs-whole); marked = omega arith; finished = omega arith };
         few-jobs = omega (arith, r .few-jobs);
@@ -145,7 +128,7 @@ module _ (jobs arcs sections times : List ℕ) (t : ℕ) (e m f : List ℕ) wher
 pub bounded : (jobs arcs sections times : List ℕ) → planInBounds (plan jobs arcs sections times) ≡ true → Bounded jobs times
 unfolding planInBounds timesRight
 bounded jobs arcs sections times a =
-    let (r, pairs) = plan-rows (plan jobs arcs sections times) a in
+    let (r, pairs) = bounds-rows (plan jobs arcs sections times) a in
     let h =
     yes-says
     (says-and
@@ -193,4 +176,4 @@ finish-in jobs arcs sections times t e m f h j l =
 pub deadline-in : (jobs arcs sections times : List ℕ) (st : State) → inBounds (plan jobs arcs sections times) st ≡ true
     → (j : ℕ) → j < length jobs / 3 → getD jobs (3 * j + 2) 0 ≤ latest
 deadline-in jobs arcs sections times st h j l =
-    plan-rows (plan jobs arcs sections times) (both (plan jobs arcs sections times) st h .0) .0 .job-in j l .deadline-in
+    bounds-rows (plan jobs arcs sections times) (both (plan jobs arcs sections times) st h .0) .0 .job-in j l .deadline-in

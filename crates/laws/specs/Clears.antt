@@ -1,18 +1,16 @@
 -- Ceilings: a resource's is the smallest span of the jobs with a section on it; and the laws of `clears`.
-use mathlib.Core.Path.{_≡_, refl, sym, _∙_, ap}
-use mathlib.Core.Logic.{_≢_, _⊎_, inl, inr, ⊎-elim}
-use mathlib.Core.Bool.{Bool, true, false, _||_}
+use mathlib.Core.Path.{_≡_, refl}
+use mathlib.Core.Logic.{_≢_, _⊎_, inl, inr}
+use mathlib.Core.Bool.{Bool, true, false}
 use mathlib.Core.Option.{Option, none, some}
-use Prim.Native.Nat.{ℕ, zero, suc, _+_, _≤_, _<_}
+use Prim.Native.Nat.{ℕ, _+_, _≤_, _<_}
 use native.Mathlib.Omega.{arith}
 use lib.Dec.{ltb, eqb}
-use Rattle.rules.specs.Rows.{all}
 use Rattle.rules.specs.Table.{Plan, State, resources, sectionCount, owner, resource, span}
 use Rattle.rules.specs.Tick.{tightest, spanOf, ceiling, belowCeiling, units, held, clears, mayStart}
 use Rattle.laws.specs.Tests.{
   Says,
   so,
-  not-so,
   lt-says,
   eq-says,
   bool-says,
@@ -62,15 +60,22 @@ module _ (p : Plan) where
       go (nobody n) = no-section (λ s h. no-says (eq-says (resource (p .table) s) q) (n s (h .listed)) (h .on))
       go (found {x} l e least) =
           smallest-span x (record { listed = l; on = yes-says (eq-says (resource (p .table) x) q) e }) (λ k h.
-          no-says (lt-says (span p (owner (p .table) k)) (span p (owner (p .table) x))) (least k (h .listed) (yes-of (eq-says (resource (p .table) k) q) (λ n. n (h .on)))))
+          no-says
+          (lt-says (span p (owner (p .table) k)) (span p (owner (p .table) x)))
+          (least k (h .listed) (yes-of (eq-says (resource (p .table) k) q) (λ n. n (h .on)))))
+
+  -- d is below the span of every job with a section on q; or some such job has a span of at most d
+  abbrev pub Below : ℕ → ℕ → Type 0
+  Below d q = (s : ℕ) → SectionOn q s → d < span p (owner (p .table) s)
+
+  abbrev pub Reached : ℕ → ℕ → Type 0
+  Reached d q = (s : ℕ) × SectionOn q s × (span p (owner (p .table) s) ≤ d)
 
   -- "Strictly below the ceiling" is below the span of every job with a section on q.
-  pub below-says : (d q : ℕ)
-      → Says ((s : ℕ) → SectionOn q s → d < span p (owner (p .table) s)) ((s : ℕ) × SectionOn q s × (span p (owner (p .table) s) ≤ d)) (belowCeiling d (ceiling p q))
+  pub below-says : (d q : ℕ) → Says (Below d q) (Reached d q) (belowCeiling d (ceiling p q))
   below-says d q = go (ceiling-of q)
     where
-      go : {o : Option ℕ} → CeilingOf q o
-          → Says ((s : ℕ) → SectionOn q s → d < span p (owner (p .table) s)) ((s : ℕ) × SectionOn q s × (span p (owner (p .table) s) ≤ d)) (belowCeiling d o)
+      go : {o : Option ℕ} → CeilingOf q o → Says (Below d q) (Reached d q) (belowCeiling d o)
       go (no-section n) = so (λ s h. absurd (n s h))
       go (smallest-span s h least) =
           says-map (λ l k g. omega (arith, least k g)) (λ l. (s, h, l)) (lt-says d (span p (owner (p .table) s)))
@@ -79,10 +84,10 @@ module _ (p : Plan) where
 
   -- What clears says, and what it says where it fails.
   abbrev pub Clear : ℕ → ℕ → ℕ → Type 0
-  Clear d q busy = (busy ≡ 0) ⊎ ((s : ℕ) → SectionOn q s → d < span p (owner (p .table) s))
+  Clear d q busy = (busy ≡ 0) ⊎ Below d q
 
   abbrev pub Stuck : ℕ → ℕ → ℕ → Type 0
-  Stuck d q busy = (busy ≢ 0) × ((s : ℕ) × SectionOn q s × (span p (owner (p .table) s) ≤ d))
+  Stuck d q busy = (busy ≢ 0) × Reached d q
 
   pub clears-says : (d q busy : ℕ) → Says (Clear d q busy) (Stuck d q busy) (clears p d q busy)
   unfolding clears

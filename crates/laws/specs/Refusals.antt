@@ -207,6 +207,23 @@ rows-right t e =
       section-in = λ s l. no-says (section-says t s) (rows-none 7 (sectionOut t) (sectionCount t) (h .1 .1 .1 .1 .1 .0) s l);
     }
 
+-- ---- a plan within its bounds
+
+accepted-none : (o : Option Fault) → accepted o ≡ true → o ≡ none
+accepted-none none e = refl
+accepted-none (some f) e = let z : _≡_ {A = ℕ} 0 1 = cc in absurd (omega arith)
+
+pub bounds-rows : (p : Plan) → planInBounds p ≡ true → RowsRight (p .table) × (length (p .times) ≡ 2 * jobCount (p .table))
+unfolding planInBounds
+bounds-rows p e =
+    let (a, b) =
+    yes-says
+    (says-and
+    (bool-says (accepted (firstOf (countFaults (p .table) ++ rowFaults (p .table)))))
+    (says-and (eq-says (length (p .times)) (2 * jobCount (p .table))) (bool-says (all (timesRight p) (jobCount (p .table))))))
+    e in
+    (rows-right (p .table) (accepted-none (firstOf (countFaults (p .table) ++ rowFaults (p .table))) a), b .0)
+
 -- ---- an accepted table
 
 pub record Accepted (t : Table) : Type 0 where

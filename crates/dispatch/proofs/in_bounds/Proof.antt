@@ -1,4 +1,5 @@
-use Rattle.dispatch.specs.Judged.{plan-rows, bounds-plan, bounds-state}
+use Rattle.laws.specs.Refusals.{bounds-rows}
+use Rattle.dispatch.specs.Judged.{bounds-plan, bounds-state}
 use Rattle.dispatch.specs.Lists.{plan}
 use Rattle.rules.specs.Refusals.{planInBounds}
 use mathlib.Core.Path.{_≡_, sym, _∙_}
@@ -19,7 +20,7 @@ returns : tie.Need-returns
 returns c = bounds-plan _ _ _ _ _ _ _ _ (sym (c .before .plan-in-bounds .ensures) ∙ not-true _ (c .if1 .taken))
 
 state-in-bounds-requires : tie.Need-state-in-bounds-requires
-state-in-bounds-requires c κs = plan-rows _ (plan-right c) .0 .jobs-whole
+state-in-bounds-requires c κs = bounds-rows _ (plan-right c) .0 .jobs-whole
 
 returns-2 : tie.Need-returns-2
 returns-2 c = bounds-state _ _ _ _ _ _ _ _ _ (plan-right (c .before)) (c .state-in-bounds .ensures)

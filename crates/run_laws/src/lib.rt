@@ -1,0 +1,1 @@
+// The theorems of demand 3 about the run: specs only.
