@@ -10,7 +10,7 @@ use lib.ListN.{length, getD}
 use lib.Dec.{ltb, leb, eqb}
 use borrow.Author.Tests.{lt-ltb, le-ltb, not-true}
 use Rattle.rules.specs.Rows.{all}
-use Rattle.rules.specs.Table.{Plan, State, jobCount, lastTick, latest, modifiedRelease}
+use Rattle.rules.specs.Table.{Plan, State, jobCount, cost, lastTick, latest, modifiedRelease, executed, mark, finish}
 use Rattle.rules.specs.Refusals.{
   Fault,
   fault,
@@ -26,14 +26,65 @@ use Rattle.rules.specs.Refusals.{
   allFinished,
   stepFault,
 }
-use Rattle.laws.specs.Tests.{bool-says, eq-says, le-says, lt-says, says-and, yes-says, no-says}
-use Rattle.laws.specs.Rows.{all-at}
+use Rattle.laws.specs.Tests.{Says, bool-says, eq-says, le-says, lt-says, says-map, says-and, yes-says, no-says, says-yes}
+use Rattle.laws.specs.Rows.{all-at, all-says}
 use Rattle.laws.specs.Refusals.{all-none, demand-none, bounds-rows}
 use Rattle.dispatch.specs.Lists.{plan, timed, state, at, ArcsFit, SectionsFit, Same, Fit, Bounded}
 
 -- A plan and a state of it are within their bounds.
 unfoldable pub inBounds : Plan → State → Bool
 inBounds p st = planInBounds p && stateInBounds p st
+
+-- ---- what a state within its bounds is known to be
+
+pub record JobStateIn (p : Plan) (st : State) (j : ℕ) : Type 0 where
+  pub executed-in : executed st j ≤ cost (p .table) j
+  pub mark-in : mark st j ≤ 2
+  pub finish-in : finish st j ≤ lastTick
+
+pub record StateIn (p : Plan) (st : State) : Type 0 where
+  pub executed-long : length (st .executed) ≡ jobCount (p .table)
+  pub marks-long : length (st .marks) ≡ jobCount (p .table)
+  pub finish-long : length (st .finish) ≡ jobCount (p .table)
+  pub tick-in : st .tick ≤ lastTick
+  pub job-in : (j : ℕ) → j < jobCount (p .table) → JobStateIn p st j
+
+module _ (p : Plan) (st : State) where
+  job-state : (j : ℕ) → Says (JobStateIn p st j) (JobStateIn p st j → ⊥) (jobStateRight p st j)
+  unfolding jobStateRight
+  job-state j =
+      says-map
+      (λ w. record { executed-in = w .0; mark-in = w .1 .0; finish-in = w .1 .1 })
+      (⊎-elim (λ l h. omega (arith, h .executed-in)) (⊎-elim (λ l h. omega (arith, h .mark-in)) (λ l h. omega (arith, h .finish-in))))
+      (says-and (le-says (executed st j) (cost (p .table) j)) (says-and (le-says (mark st j) 2) (le-says (finish st j) lastTick)))
+
+  state-says : Says (StateIn p st) (StateIn p st → ⊥) (stateInBounds p st)
+  unfolding stateInBounds
+  state-says =
+      says-map
+      (λ w. record { executed-long = w .0; marks-long = w .1 .0; finish-long = w .1 .1 .0; tick-in = w .1 .1 .1 .0; job-in = w .1 .1 .1 .1 })
+      (⊎-elim
+      (λ n h. n (h .executed-long))
+      (⊎-elim
+      (λ n h. n (h .marks-long))
+      (⊎-elim
+      (λ n h. n (h .finish-long))
+      (⊎-elim (λ l h. omega (arith, h .tick-in)) (λ w h. w .2 (h .job-in (w .0) (w .1)))))))
+      (says-and
+      (eq-says (length (st .executed)) (jobCount (p .table)))
+      (says-and
+      (eq-says (length (st .marks)) (jobCount (p .table)))
+      (says-and
+      (eq-says (length (st .finish)) (jobCount (p .table)))
+      (says-and
+      (le-says (st .tick) lastTick)
+      (all-says _ _ (jobStateRight p st) job-state (jobCount (p .table)))))))
+
+  pub state-in : stateInBounds p st ≡ true → StateIn p st
+  state-in = yes-says state-says
+
+  pub in-state : StateIn p st → stateInBounds p st ≡ true
+  in-state = says-yes state-says
 
 -- ---- the judgement before a step, each way out
 
@@ -48,9 +99,20 @@ module _ (p : Plan) (st : State) where
       go true b = rw b
       go false b = refl
 
-  both : inBounds p st ≡ true → (planInBounds p ≡ true) × (stateInBounds p st ≡ true)
+  pub both : inBounds p st ≡ true → (planInBounds p ≡ true) × (stateInBounds p st ≡ true)
   unfolding inBounds
   both e = yes-says (says-and (bool-says (planInBounds p)) (bool-says (stateInBounds p st))) e
+
+  -- where a step can be taken
+  pub step-good : stepFault p st ≡ none → (planInBounds p ≡ true) × (stateInBounds p st ≡ true) × (st .tick < lastTick)
+  unfolding stepFault
+  step-good q =
+      let judged : Bool = planInBounds p && (stateInBounds p st && ltb (st .tick) lastTick) in
+      let (a, b) =
+      yes-says
+      (says-and (bool-says (planInBounds p)) (says-and (bool-says (stateInBounds p st)) (lt-says (st .tick) lastTick)))
+      (demand-none judged 12 (all-none (demand judged 12 ∷ demand (not (allFinished p st)) 13 ∷ []) q .0)) in
+      (a, b .0, b .1)
 
   module _ (h : inBounds p st ≡ true) where
     pub too-late : lastTick ≤ st .tick → some (fault 12 0) ≡ stepFault p st
@@ -97,32 +159,14 @@ module _ (jobs arcs sections times : List ℕ) (t : ℕ) (e m f : List ℕ) wher
   -- ---- where a step can be taken
 
   pub fit : inBounds (plan jobs arcs sections times) (state t e m f) ≡ true → Fit jobs arcs sections times e m f
-  unfolding stateInBounds
   fit h =
       let (a, b) = both (plan jobs arcs sections times) (state t e m f) h in
-      let s =
-      yes-says
-      (says-and
-      (eq-says (length e) (length jobs / 3))
-      (says-and
-      (eq-says (length m) (length jobs / 3))
-      (says-and
-      (eq-says (length f) (length jobs / 3))
-      (bool-says (leb t lastTick && all (jobStateRight (plan jobs arcs sections times) (state t e m f)) (length jobs / 3))))))
-      b in
-      plan-fit a (s .0) (s .1 .0) (s .1 .1 .0)
+      let i = state-in (plan jobs arcs sections times) (state t e m f) b in
+      plan-fit a (i .executed-long) (i .marks-long) (i .finish-long)
 
   pub step-fit : stepFault (plan jobs arcs sections times) (state t e m f) ≡ none → Fit jobs arcs sections times e m f × (t < lastTick)
-  unfolding stepFault inBounds
-  step-fit q =
-      let judged : Bool = planInBounds (plan jobs arcs sections times) && (stateInBounds (plan jobs arcs sections times) (state t e m f) && ltb t lastTick) in
-      let (a, b) =
-      yes-says
-      (says-and
-      (bool-says (planInBounds (plan jobs arcs sections times)))
-      (says-and (bool-says (stateInBounds (plan jobs arcs sections times) (state t e m f))) (lt-says t lastTick)))
-      (demand-none judged 12 (all-none (demand judged 12 ∷ demand (not (allFinished (plan jobs arcs sections times) (state t e m f))) 13 ∷ []) q .0)) in
-      (fit (rw (a, b .0)), b .1)
+  unfolding inBounds
+  step-fit q = let (a, b, l) = step-good (plan jobs arcs sections times) (state t e m f) q in (fit (rw (a, b)), l)
 
 -- releases and costs are within their bounds
 pub bounded : (jobs arcs sections times : List ℕ) → planInBounds (plan jobs arcs sections times) ≡ true → Bounded jobs times
@@ -147,30 +191,6 @@ bounded jobs arcs sections times a =
           .0;
       costs = λ j l. r .job-in j l .cost-in;
     }
-
--- no finish of a state within its bounds is after the last tick
-pub finish-in : (jobs arcs sections times : List ℕ) (t : ℕ) (e m f : List ℕ) → inBounds (plan jobs arcs sections times) (state t e m f) ≡ true
-    → (j : ℕ) → j < length jobs / 3 → getD f j 0 ≤ lastTick
-unfolding stateInBounds jobStateRight
-finish-in jobs arcs sections times t e m f h j l =
-    let (a, b) = both (plan jobs arcs sections times) (state t e m f) h in
-    let s =
-    yes-says
-    (says-and
-    (bool-says (eqb (length e) (length jobs / 3)))
-    (says-and
-    (bool-says (eqb (length m) (length jobs / 3)))
-    (says-and
-    (bool-says (eqb (length f) (length jobs / 3)))
-    (says-and (bool-says (leb t lastTick)) (bool-says (all (jobStateRight (plan jobs arcs sections times) (state t e m f)) (length jobs / 3)))))))
-    b in
-    yes-says
-    (says-and
-    (bool-says (leb (getD e j 0) (getD jobs (3 * j + 1) 0)))
-    (says-and (bool-says (leb (getD m j 0) 2)) (le-says (getD f j 0) lastTick)))
-    (all-at (jobStateRight (plan jobs arcs sections times) (state t e m f)) (length jobs / 3) (s .1 .1 .1 .1) j l)
-    .1
-    .1
 
 -- the deadline of a job of such a plan
 pub deadline-in : (jobs arcs sections times : List ℕ) (st : State) → inBounds (plan jobs arcs sections times) st ≡ true

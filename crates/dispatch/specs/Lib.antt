@@ -4,3 +4,4 @@ pub mod Marks
 pub mod Ends
 pub mod Judged
 pub mod Promise
+pub mod Theorems

@@ -91,11 +91,6 @@ module _ (p : Plan) (st : State) (silent : Bool) where
     unfolding stepResult
     step-ran j q = rw (e, ← t .who, t .becomes, q)
 
--- any two results that it allows are equal: the refusal or who ran, and the state
-pub step-settled : {p : Plan} {st : State} {silent : Bool} {r r′ : Stepped} {a a′ : State}
-    → Steps p st silent r a → Steps p st silent r′ a′ → said (r .ran) a ≡ said (r′ .ran) a′
-step-settled x y = x .is ∙ sym (y .is)
-
 -- ---- start and run
 
 -- Three lent lists.

@@ -6,7 +6,7 @@ use mathlib.Core.List.{List, [], _∷_, _++_, append-assoc}
 use mathlib.Core.Option.{Option, none, some}
 use Prim.Native.Nat.{ℕ, zero, suc, _+_, _*_, _-_, _%_, _≤_, _<_}
 use native.Mathlib.Omega.{arith}
-use lib.ListN.{length}
+use lib.ListN.{length, getD}
 use lib.Dec.{ltb, leb, eqb}
 use Rattle.rules.specs.Rows.{all, lowest}
 use Rattle.rules.specs.Table.{
@@ -37,7 +37,27 @@ use Rattle.rules.specs.Table.{
   modifiedDeadline,
 }
 use Rattle.rules.specs.Times.{lift, newRelease, liftedDeadline, timesTo}
+use Rattle.rules.specs.declared.Refusal.{Refusal}
+use Rattle.rules.specs.declared.Refusal.the-variants.{
+  Text,
+  Jobs,
+  Arcs,
+  Sections,
+  JobOut,
+  ArcOut,
+  SectionOut,
+  Clash,
+  Cycle,
+  Window,
+  Room,
+  Bounds,
+  Finished,
+  Multiple,
+}
 use Rattle.rules.specs.Refusals.{
+  numberOf,
+  placeOf,
+  faultOf,
   Fault,
   fault,
   Outcome,
@@ -253,3 +273,32 @@ accepted-facts t e =
       wide = λ j l.
           no-says (lt-says (liftedDeadline t j) (lift + newRelease t j + cost t j)) (rows-none 10 (tooShort t) (jobCount t) (h .1 .1 .0) j l);
     }
+
+-- ---- a refusal of the code is told by its number and place
+
+refusalAt : ℕ → ℕ → Refusal
+refusalAt n k =
+    getD
+    (Room ∷ Text k ∷ Jobs k ∷ Arcs k ∷ Sections k ∷ JobOut k ∷ ArcOut k ∷ SectionOut k ∷ Clash k ∷ Cycle k ∷ Window k ∷ Room ∷ Bounds ∷ Finished ∷ Multiple ∷ [])
+    n
+    Room
+
+refusal-told : (f : Refusal) → refusalAt (numberOf f) (placeOf f) ≡ f
+unfolding refusalAt
+refusal-told (Text k) = refl
+refusal-told (Jobs k) = refl
+refusal-told (Arcs k) = refl
+refusal-told (Sections k) = refl
+refusal-told (JobOut k) = refl
+refusal-told (ArcOut k) = refl
+refusal-told (SectionOut k) = refl
+refusal-told (Clash k) = refl
+refusal-told (Cycle k) = refl
+refusal-told (Window k) = refl
+refusal-told Room = refl
+refusal-told Bounds = refl
+refusal-told Finished = refl
+refusal-told Multiple = refl
+
+pub fault-one : (f g : Refusal) → faultOf f ≡ faultOf g → f ≡ g
+fault-one f g e = sym (refusal-told f) ∙ ap (λ (x : Fault). refusalAt (x .number) (x .place)) e ∙ refusal-told g

@@ -1,3 +1,4 @@
+-- The plan first, then the state.
 use Rattle.laws.specs.Refusals.{bounds-rows}
 use Rattle.dispatch.specs.Judged.{bounds-plan, bounds-state}
 use Rattle.dispatch.specs.Lists.{plan}

@@ -1,3 +1,4 @@
+-- 12, then room for each list, else nothing.
 use Rattle.dispatch.specs.Promise.{start-unfit, short-executed, short-marks, short-finish, start-ready}
 use Rattle.dispatch.specs.Lists.{plan}
 use Rattle.rules.specs.Refusals.{planInBounds}

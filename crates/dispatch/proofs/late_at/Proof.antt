@@ -1,3 +1,4 @@
+-- Unfinished, or the difference.
 use Rattle.dispatch.specs.Ends.{difference-small}
 use mir.Facts.{toZ-ofZ}
 use mir.Val.{SFits}

@@ -1,5 +1,6 @@
+-- 12 by bounds or by the job, else what `late_at` says.
 use Rattle.dispatch.specs.Promise.{latenessIn, late-unfit, late-nobody, late-known}
-use Rattle.dispatch.specs.Judged.{inBounds, fit, finish-in, deadline-in}
+use Rattle.dispatch.specs.Judged.{inBounds, both, state-in, fit, deadline-in}
 use Rattle.dispatch.specs.Lists.{plan, state, Fit}
 use mathlib.Core.Path.{_≡_, sym, _∙_}
 use mathlib.Core.Bool.{true}
@@ -36,7 +37,7 @@ late-at-requires c κs =
     let a = b .before .before .before .before .before .before .before .before .before .args in
     let f = fits b .lists in (
       (omega arith, omega arith, omega arith),
-      (finish-in _ _ _ _ _ _ _ _ (judged b) (a .job) (omega arith), deadline-in _ _ _ _ _ (judged b) (a .job) (omega arith)),
+      (state-in _ _ (both _ _ (judged b) .1) .job-in (a .job) (omega arith) .finish-in, deadline-in _ _ _ _ _ (judged b) (a .job) (omega arith)),
     )
 
 returns-3 : tie.Need-returns-3

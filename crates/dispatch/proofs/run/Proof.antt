@@ -1,3 +1,4 @@
+-- The start stands in the fronts, and the run goes on in them.
 use lib.Seq.{length-take-le}
 use Rattle.dispatch.specs.declared.Reached.{Reached}
 use Rattle.dispatch.specs.Promise.{Lists, lists, holding, faultFor, reachFor, told, start-room, refused-kept, reached-holds, reach-refused, run-holds}

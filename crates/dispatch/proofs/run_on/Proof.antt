@@ -1,3 +1,4 @@
+-- What is left of the run comes to what the whole run comes to.
 use Rattle.dispatch.specs.Ends.{Going, fit-same, run-begins, run-over, run-stops, run-goes}
 use Rattle.dispatch.specs.Lists.{plan, state, Fit}
 use Rattle.rules.specs.Run.{answered}

@@ -1,3 +1,4 @@
+-- A refusal writes nothing; else each front is zeros.
 use Rattle.rules.specs.Run.{start}
 use Rattle.dispatch.specs.Promise.{asFault, Lists, lists, faultFor, start-room, reach-refused, reach-holds, start-holds}
 use Rattle.dispatch.specs.Lists.{plan}

@@ -1,3 +1,4 @@
+-- A refusal gives everything back; else one tick, and who ran.
 use Rattle.dispatch.specs.Promise.{asFault, step-refused, step-idle, step-ran}
 use Rattle.dispatch.specs.Judged.{step-fit}
 use Rattle.dispatch.specs.Lists.{plan, state, asOption, within-at, Fit}

@@ -1,3 +1,4 @@
+-- `clears` is the ceiling's test at one section.
 use Rattle.dispatch.specs.Lists.{clearOf}
 use Prim.Native.Nat.{_+_, _*_, _/_, _<_}
 use native.Mathlib.Omega.{arith}

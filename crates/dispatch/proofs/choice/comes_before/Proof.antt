@@ -1,3 +1,4 @@
+-- `comes_before` is 01's order: the two keys and the number, one within the other.
 use Rattle.rules.specs.Order.{comesBefore}
 use borrow.Author.Needs.{needs}
 use Rattle.dispatch.proofs.choice.comes_before.Statement.{statement}

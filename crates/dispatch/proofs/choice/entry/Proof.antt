@@ -1,3 +1,4 @@
+-- A number of a row is itself as an index.
 use native.Mathlib.Omega.{arith}
 use borrow.Author.Needs.{needs}
 use Rattle.dispatch.proofs.choice.entry.Statement.{statement}

@@ -1,3 +1,4 @@
+-- The best of the rows passed so far is `first` of them.
 use borrow.Author.Needs.{needs}
 use Rattle.dispatch.specs.Lists.{timed, at, asOption, Within, candidate}
 use Rattle.laws.specs.First.{first-more}

@@ -1,3 +1,4 @@
+-- `first_key` is the order of two instants with a tie handed in: each test decides one way.
 use mathlib.Core.Path.{sym, _∙_}
 use borrow.Author.Needs.{needs}
 use Rattle.dispatch.proofs.choice.first_key.Statement.{statement}

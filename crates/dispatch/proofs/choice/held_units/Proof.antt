@@ -1,3 +1,4 @@
+-- After s sections the array holds the units that pending jobs hold in them.
 use Rattle.rules.specs.Tick.{pending}
 use Rattle.dispatch.specs.Choice.{held-start, held-skip, held-more, held-few}
 use Rattle.dispatch.specs.Lists.{plan, at, HeldTo}

@@ -1,3 +1,4 @@
+-- `is_candidate` tests in the order of the definition.
 use borrow.Author.Tests.{le-leb, lt-leb, le-ltb, lt-ltb}
 use Rattle.dispatch.proofs.choice.is_candidate.Statement.{statement}
 use Rattle.dispatch.proofs.choice.is_candidate.Tie as tie

@@ -1,3 +1,4 @@
+-- `is_held` tests from, to and pending, each as the definition does.
 use mathlib.Core.Bool.{and-true}
 use Rattle.rules.specs.Tick.{holds, pending}
 use mathlib.Core.Path.{_∙_}

@@ -1,3 +1,4 @@
+-- All sections passed so far are clear.
 use Rattle.dispatch.specs.Lists.{plan, clearOf}
 use Rattle.laws.specs.Rows.{all-next, all-not, all-end}
 use Rattle.rules.specs.Rows.{all}

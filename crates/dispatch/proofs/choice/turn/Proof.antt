@@ -1,3 +1,4 @@
+-- One turn of the choice is `better`: the four ways out of the code are its four ways.
 use mathlib.Core.Bool.{true}
 use native.Mathlib.Omega.{arith}
 use lib.ListN.{length}

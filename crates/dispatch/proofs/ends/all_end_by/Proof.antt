@@ -1,3 +1,4 @@
+-- The two parts of the bound, added.
 use Rattle.rules.specs.Run.{allEndBy}
 use mathlib.Core.Path.{refl}
 use native.Mathlib.Omega.{arith}

@@ -1,3 +1,4 @@
+-- The places passed are 0, the rest is as it was.
 use Rattle.dispatch.specs.Ends.{Cleared, clear-start, clear-more, clear-end}
 use mathlib.Core.Path.{_≡_}
 use Prim.Native.Nat.{_-_, _≤_}

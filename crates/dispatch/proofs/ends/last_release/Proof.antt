@@ -1,3 +1,4 @@
+-- The largest release of the jobs passed.
 use Rattle.dispatch.specs.Ends.{largest-more}
 use Rattle.dispatch.specs.Lists.{timed}
 use Rattle.rules.specs.Table.{modifiedRelease}

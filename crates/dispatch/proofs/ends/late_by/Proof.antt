@@ -1,3 +1,4 @@
+-- Small numbers are their own bits, and so is their difference.
 use Rattle.dispatch.specs.Ends.{minus, difference-small}
 use lib.IntN.{pos, subℕ, _-ℤ_}
 use mir.Facts.{toZ-ofZ}

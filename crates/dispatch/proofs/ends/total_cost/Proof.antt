@@ -1,3 +1,4 @@
+-- The sum of the costs passed, within its bound.
 use Rattle.dispatch.specs.Lists.{timed}
 use Rattle.laws.specs.Rows.{sum-more}
 use Rattle.rules.specs.Table.{cost}

@@ -1,3 +1,4 @@
+-- No arc passed so far brings a stale mark; looking at arcs is looking at predecessors.
 use Rattle.dispatch.specs.Marks.{bringsStale, stale-by-arcs}
 use Rattle.laws.specs.Rows.{any-next, any-from, any-end}
 use Rattle.rules.specs.Rows.{any}

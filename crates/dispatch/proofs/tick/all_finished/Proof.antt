@@ -1,3 +1,4 @@
+-- All jobs passed so far have finished.
 use Rattle.dispatch.specs.Lists.{timed, at}
 use Rattle.laws.specs.Rows.{all-next, all-not, all-end}
 use Rattle.rules.specs.Refusals.{finished, allFinished}

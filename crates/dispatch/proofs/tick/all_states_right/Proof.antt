@@ -1,3 +1,4 @@
+-- All jobs passed so far are right.
 use Rattle.dispatch.specs.Lists.{timed, state}
 use Rattle.laws.specs.Rows.{all-next, all-not, all-end}
 use Rattle.rules.specs.Refusals.{jobStateRight}

@@ -1,3 +1,4 @@
+-- Both tests of an arc, in order.
 use Rattle.dispatch.specs.Marks.{bringsStale}
 use Prim.Native.Nat.{_+_, _*_}
 use native.Mathlib.Omega.{arith}

@@ -1,3 +1,4 @@
+-- The stores are those of `advance`, with or without the end of the job.
 use Rattle.dispatch.specs.Marks.{tick-ends, tick-goes-on}
 use mathlib.Core.Path.{refl}
 use Prim.Native.Nat.{_+_, _*_}

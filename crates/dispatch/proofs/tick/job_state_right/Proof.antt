@@ -1,3 +1,4 @@
+-- What 12 asks of one job's state, in order.
 use Rattle.rules.specs.Refusals.{jobStateRight}
 use borrow.Author.Tests.{le-leb, lt-leb}
 use borrow.Author.Needs.{needs}

@@ -1,3 +1,4 @@
+-- Stale by the report, stale by a predecessor, or fresh.
 use mathlib.Core.Path.{sym, _∙_}
 use borrow.Author.Needs.{needs}
 use Rattle.dispatch.proofs.tick.mark_at_end.Statement.{statement}

@@ -1,3 +1,4 @@
+-- The choice, and what it does: idle or a given tick.
 use Rattle.dispatch.specs.Choice.{chosen-same, tick-idle, tick-runs}
 use Rattle.dispatch.specs.Choice.{chosen-pending}
 use Rattle.dispatch.specs.Lists.{plan, state, at, asOption, within-at}

@@ -1,3 +1,4 @@
+-- The lengths, the tick, then each job.
 use Rattle.rules.specs.Refusals.{jobStateRight, stateInBounds}
 use native.Mathlib.Omega.{arith}
 use borrow.Author.Tests.{le-leb, lt-leb, eq-eqb, ne-eqb}
