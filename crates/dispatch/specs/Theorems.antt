@@ -129,7 +129,7 @@ may-set-long true l j v = length-set l j v
 may-set-long false l j v = refl
 
 may-set-most : (b : Bool) (l : List ℕ) (j v k m : ℕ) → k < length l → v ≤ m → getD l k 0 ≤ m → getD (cond b (set l j v) l) k 0 ≤ m
-may-set-most true l j v k m = set-most l j v k m
+may-set-most true l j v k m h x y = set-most l j v k m h x y
 may-set-most false l j v k m h x y = y
 
 pending-left : (p : Plan) (st : State) (j : ℕ) → pending p st j ≡ true → executed st j < cost (p .table) j

@@ -8,6 +8,5 @@ pub mod Reach
 pub mod Times
 pub mod Refusals
 pub mod Accepted
-pub mod Clears
 pub mod Keys
 pub mod Nesting
