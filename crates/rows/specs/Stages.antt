@@ -14,7 +14,7 @@ use Rattle.rules.specs.Table.{Table, latest, mostCost, resources, jobCount, rel
 use Rattle.rules.specs.Refusals.{Fault, fault, firstOf, demand, atRow, countFaults, rowFaults, jobOut, arcOut, sectionOut, overlap, within, clash, clashes}
 use Rattle.laws.specs.Tests.{le-says, eq-says, says-and, yes-says}
 use Rattle.laws.specs.Rows.{any-from, any-end, lowest-is}
-use Rattle.laws.specs.Refusals.{AllNone, all-none, first-of-append, demand-none}
+use Rattle.laws.specs.Refusals.{AllNone, all-none, first-of-append, demand-none, RowsRight, rows-right}
 use Rattle.rows.specs.declared.Judged.{Judged}
 use Rattle.rows.specs.declared.Rule.{Rule}
 use Rattle.rows.specs.declared.Rule.the-variants.{Job, Arc, Section, Clash}
@@ -154,3 +154,10 @@ clashes-are t p q =
 pub values-counts : (t : Table) → valuesFault t ≡ none → firstOf (countFaults t) ≡ none
 unfolding valuesFault
 values-counts t e = first-of-append (countFaults t) (rowFaults t) e .0
+
+-- what 2 to 8 leave holds what 2 to 7 ask
+pub clashes-rows : (t : Table) → clashesFault t ≡ none → RowsRight t
+unfolding clashesFault
+clashes-rows t e =
+    let later = stage t Clash ∷ [] in
+    rows-right t (first-of-append (countFaults t ++ rowFaults t) later (rw (append-assoc (countFaults t) (rowFaults t) later) e) .0)
