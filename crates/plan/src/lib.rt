@@ -1,4 +1,5 @@
 // The table check with the modified times, and the judgement of a plan that is handed in.
+mod times;
 use rows::Judged;
 ghost use mathlib.Core.Path.{_≡_};
 ghost use mathlib.Core.List.{[]};
