@@ -19,7 +19,7 @@ use Rattle.laws.specs.Rows.{lowest-ext}
 use Rattle.laws.specs.Refusals.{RowsRight, ArcIn}
 use Rattle.rows.specs.Lists.{table}
 use Rattle.rows.specs.Judged.{clashesFault}
-use Rattle.rows.specs.Stages.{front, at-found, at-none, clashes-rows}
+use Rattle.rows.specs.Stages.{at-found, at-none, front-rows, front-later}
 use Rattle.cycles.specs.Words.{has, insert, joined, has-none, has-insert, or-false, has-joined}
 
 -- every arc names numbers below n
@@ -168,12 +168,11 @@ pub cycles-are : (t : Table) {v c : Option Fault} → clashesFault t ≡ v → c
 unfolding clashesFault cyclesFault cycleFound
 cycles-are t p q =
     (λ i. firstOf (sym p i ∷ sym q i ∷ []))
-    ∙ front (countFaults t ++ (rowFaults t ++ (atRow 8 (lowest (clashes t) (sectionCount t)) ∷ []))) (cycleFound t ∷ [])
-    ∙ ap firstOf (append-assoc (countFaults t) (rowFaults t ++ (atRow 8 (lowest (clashes t) (sectionCount t)) ∷ [])) (cycleFound t ∷ [])
-    ∙ ap (λ l. countFaults t ++ l) (append-assoc (rowFaults t) (atRow 8 (lowest (clashes t) (sectionCount t)) ∷ []) (cycleFound t ∷ [])))
+    ∙ front-later t (atRow 8 (lowest (clashes t) (sectionCount t)) ∷ []) (atRow 9 (lowest (onCycle t) (jobCount t)) ∷ [])
 
 -- what 2 to 8 settle for the words
 pub cycles-ready : (t : Table) → clashesFault t ≡ none → (jobCount t ≤ 64) × ArcsBelow (t .arcs) 64
+unfolding clashesFault
 cycles-ready t e =
-    let R = clashes-rows t e in
+    let R = front-rows t (atRow 8 (lowest (clashes t) (sectionCount t)) ∷ []) e in
     (R .few-jobs, λ a l. let A = R .arc-in a l in (omega (arith, R .few-jobs, A .before-in), omega (arith, R .few-jobs, A .after-in)))

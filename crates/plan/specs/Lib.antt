@@ -2,3 +2,5 @@
 
 pub mod Bounds
 pub mod Rounds
+pub mod Modified
+pub mod Promise

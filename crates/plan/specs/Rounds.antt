@@ -282,37 +282,3 @@ pairs-more releases tails lent times j h e =
 pub pairs-end : (releases tails lent times : List ℕ) (j n : ℕ) → j ≤ n → n ≤ j → times ≡ pairsTo releases tails j ++ drop (2 * j) lent
     → times ≡ pairsTo releases tails n ++ drop (2 * n) lent
 pairs-end releases tails lent times j n p q e = let d : j ≡ n = omega arith in rw d at e
-
--- ---- rounds over the arcs are 01's equations over the jobs
-
--- the largest over the arcs to j is the largest over the jobs that lead to j
-by-arcs : (source target : ℕ → ℕ) (leads : ℕ → Bool) (f : ℕ → ℕ) (base m n j : ℕ)
-    → ((a : ℕ) → a < m → target a ≡ j → (source a < n) × (leads (source a) ≡ true))
-    → ((i : ℕ) → leads i ≡ true → (a : ℕ) × (a < m) × (source a ≡ i) × (target a ≡ j))
-    → largest (λ a. eqb (target a) j) (λ a. f (source a)) base m ≡ largest leads f base n
-by-arcs source target leads f base m n j there back =
-    omega (
-      arith,
-      largest-most (λ a. eqb (target a) j) (λ a. f (source a)) base m (largest leads f base n) (largest-base leads f base n)
-          (λ a l e. let h = there a l (eqb-true (target a) j e) in largest-at leads f base n (source a) (h .0) (h .1)),
-      largest-most leads f base n (largest (λ a. eqb (target a) j) (λ a. f (source a)) base m)
-          (largest-base (λ a. eqb (target a) j) (λ a. f (source a)) base m)
-          (λ i l e.
-              let (a, q, s, t) = back i e in
-              rw (← s) (largest-at (λ a. eqb (target a) j) (λ a. f (source a)) base m a q (eq-eqb (target a) j t))),
-    )
-
--- the smallest is the largest in the mirror
-mirror : (most : ℕ) (passes : ℕ → Bool) (f g : ℕ → ℕ) (base : ℕ) (n : ℕ) → ((k : ℕ) → k < n → g k ≡ most - f k)
-    → smallest passes g (most - base) n ≡ most - largest passes f base n
-unfolding smallest largest
-mirror most passes f g base zero same = refl
-mirror most passes f g base (suc n) same =
-    rw (mirror most passes f g base n (λ k l. same k (omega arith)), same n (omega arith)) (go (passes n))
-  where
-    go : (b : Bool)
-        → cond b (min (most - largest passes f base n) (most - f n)) (most - largest passes f base n)
-        ≡ most - cond b (max (largest passes f base n) (f n)) (largest passes f base n)
-    go true = omega arith
-    go false = refl
-

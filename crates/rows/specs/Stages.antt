@@ -155,9 +155,15 @@ pub values-counts : (t : Table) → valuesFault t ≡ none → firstOf (countFau
 unfolding valuesFault
 values-counts t e = first-of-append (countFaults t) (rowFaults t) e .0
 
--- what 2 to 8 leave holds what 2 to 7 ask
-pub clashes-rows : (t : Table) → clashesFault t ≡ none → RowsRight t
-unfolding clashesFault
-clashes-rows t e =
-    let later = stage t Clash ∷ [] in
+-- where 2 to 7, and what is looked for after them, find nothing, counts and rows are right
+pub front-rows : (t : Table) (later : List (Option Fault)) → firstOf (countFaults t ++ (rowFaults t ++ later)) ≡ none → RowsRight t
+front-rows t later e =
     rows-right t (first-of-append (countFaults t ++ rowFaults t) later (rw (append-assoc (countFaults t) (rowFaults t) later) e) .0)
+
+-- a later stage joins those before it
+pub front-later : (t : Table) (before later : List (Option Fault))
+    → firstOf (firstOf (countFaults t ++ (rowFaults t ++ before)) ∷ later) ≡ firstOf (countFaults t ++ (rowFaults t ++ (before ++ later)))
+front-later t before later =
+    front (countFaults t ++ (rowFaults t ++ before)) later
+    ∙ ap firstOf
+    (append-assoc (countFaults t) (rowFaults t ++ before) later ∙ ap (λ l. countFaults t ++ l) (append-assoc (rowFaults t) before later))
