@@ -20,6 +20,7 @@ use Rattle.laws.specs.Refusals.{RowsRight, ArcIn}
 use Rattle.rows.specs.Lists.{table}
 use Rattle.rows.specs.Judged.{clashesFault}
 use Rattle.rows.specs.Stages.{at-found, at-none, front-rows, front-later}
+use Rattle.cycles.specs.Promise.{cycleFound, cyclesFault}
 use Rattle.cycles.specs.Words.{has, insert, joined, has-none, has-insert, or-false, has-joined}
 
 -- every arc names numbers below n
@@ -51,20 +52,6 @@ pub record Passed (n k next : ℕ) (old words : List ℕ) (i : ℕ) : Type 0 whe
 pub record Joins (n k : ℕ) (old words : List ℕ) : Type 0 where
   pub size : length words ≡ 64
   pub at : (x : ℕ) → x < n → getD words x 0 ≡ joined (getD old x 0) k (getD old k 0)
-
--- what 9 finds
-unfoldable pub cycleFound : Table → Option Fault
-unfolding lowest onCycle
-cycleFound t = atRow 9 (lowest (onCycle t) (jobCount t))
-
--- what 2 to 9 find
-unfoldable pub cyclesFault : Table → Option Fault
-unfolding countFaults rowFaults lowest clashes onCycle
-cyclesFault t =
-    firstOf
-    (countFaults t
-    ++ (rowFaults t
-    ++ (atRow 8 (lowest (clashes t) (sectionCount t)) ∷ atRow 9 (lowest (onCycle t) (jobCount t)) ∷ [])))
 
 -- ---- laws for the code
 

@@ -1,3 +1,4 @@
--- Cycles: words as sets of jobs, chains of arcs in words, and the promise.
+-- Cycles: the promise, words as sets of jobs, and chains of arcs in words.
+pub mod Promise
 pub mod Words
 pub mod Chains

@@ -9,7 +9,8 @@ ghost use Rattle.rules.specs.Table.{jobCount};
 ghost use Rattle.rows.specs.Lists.{table};
 ghost use Rattle.rows.specs.Judged.{faultIn};
 ghost use Rattle.cycles.specs.Words.{has, insert, joined};
-ghost use Rattle.cycles.specs.Chains.{ArcsBelow, Direct, Joins, Reached, cycleFound, cyclesFault};
+ghost use Rattle.cycles.specs.Chains.{ArcsBelow, Direct, Joins, Reached};
+ghost use Rattle.cycles.specs.Promise.{cycleFound, cyclesFault};
 
 fn wide(x: u32) -> usize
     ensures { λ r. ⌜ r ≡ x ⌝ }

@@ -7,3 +7,4 @@ pub mod Reach
 pub mod Times
 pub mod Refusals
 pub mod Accepted
+pub mod Answers

@@ -4,3 +4,4 @@ pub mod Bounds
 pub mod Rounds
 pub mod Modified
 pub mod Promise
+pub mod Theorems

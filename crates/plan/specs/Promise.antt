@@ -37,7 +37,7 @@ use Rattle.rules.specs.declared.Refusal.the-variants.{Room}
 use Rattle.laws.specs.Times.{times-length}
 use Rattle.laws.specs.Refusals.{RowsRight}
 use Rattle.rows.specs.Stages.{front-rows, front-later}
-use Rattle.cycles.specs.Chains.{cyclesFault}
+use Rattle.cycles.specs.Promise.{cyclesFault}
 use Rattle.plan.specs.declared.Planned.{Planned}
 use Rattle.plan.specs.declared.Planned.the-variants.{Refused, Times}
 

@@ -1,5 +1,4 @@
 -- Laws for the code: what each stage finds, and that the first find is the answer.
--- so many numbers are whole rows, `least` to `most` of them
 use mathlib.Core.Path.{_≡_, refl, sym, _∙_, ap}
 use mathlib.Core.Bool.{Bool, true, false, not, _&&_, _||_}
 use mathlib.Core.List.{List, [], _∷_, _++_, append-assoc}
@@ -20,6 +19,7 @@ use Rattle.rows.specs.declared.Rule.{Rule}
 use Rattle.rows.specs.declared.Rule.the-variants.{Job, Arc, Section, Clash}
 use Rattle.rows.specs.Judged.{faultIn, valuesFault, clashesFault}
 
+-- so many numbers are whole rows, `least` to `most` of them
 unfoldable pub inRows : ℕ → ℕ → ℕ → ℕ → Bool
 inRows numbers width least most = eqb (numbers % width) 0 && (leb least (numbers / width) && leb (numbers / width) most)
 

@@ -3,7 +3,7 @@ use Rattle.rules.specs.Rows.{lowest}
 use Prim.Native.Nat.{_/_}
 use lib.ListN.{length, drop}
 use mathlib.Core.List.{_++_}
-use Rattle.cycles.specs.Chains.{cyclesFault}
+use Rattle.cycles.specs.Promise.{cyclesFault}
 use Rattle.rows.specs.Lists.{table}
 use mathlib.Core.Option.{none}
 use Rattle.plan.specs.Rounds.{JobsIn, ArcsIn, Low, holds-low, windowFound}
