@@ -1,9 +1,9 @@
 -- Chains of arcs in words: word i holds the jobs that chains from job i lead to.
 use mathlib.Core.Path.{_≡_, refl, sym, _∙_, ap}
-use mathlib.Core.Bool.{Bool, true, false, cond, _&&_, _||_}
-use mathlib.Core.List.{List, [], _∷_, _++_, append-assoc}
+use mathlib.Core.Bool.{Bool, true, false, _&&_, _||_}
+use mathlib.Core.List.{List, [], _∷_}
 use mathlib.Core.Option.{Option, none, some}
-use Prim.Native.Nat.{ℕ, zero, suc, _+_, _*_, _/_, _≤_, _<_}
+use Prim.Native.Nat.{ℕ, zero, suc, _+_, _≤_, _<_}
 use native.Mathlib.Numerals.{add-one}
 use native.Mathlib.Decide.{ℕ-discrete}
 use native.Mathlib.Omega.{arith}
@@ -14,9 +14,8 @@ use borrow.Author.Count.{below-more}
 use borrow.Author.Tests.{eq-eqb, ne-eqb}
 use Rattle.rules.specs.Rows.{any, lowest}
 use Rattle.rules.specs.Table.{Table, jobCount, arcCount, before, after, precedes, sectionCount}
-use Rattle.rules.specs.Refusals.{Fault, fault, firstOf, atRow, countFaults, rowFaults, clashes, reachesBy, reaches, onCycle}
+use Rattle.rules.specs.Refusals.{Fault, fault, firstOf, atRow, clashes, reachesBy, reaches, onCycle}
 use Rattle.laws.specs.Rows.{lowest-ext}
-use Rattle.laws.specs.Refusals.{RowsRight, ArcIn}
 use Rattle.rows.specs.Lists.{table}
 use Rattle.rows.specs.Judged.{clashesFault}
 use Rattle.rows.specs.Stages.{at-found, at-none, front-rows, front-later}

@@ -1,24 +1,24 @@
 -- What the rounds leave are 01's modified times: the arcs are gone through once a round, the definition goes through the jobs.
 use mathlib.Core.Path.{_≡_, refl, sym, _∙_, ap}
 use mathlib.Core.Bool.{Bool, true, false, cond}
-use mathlib.Core.List.{List, [], _∷_, _++_}
-use mathlib.Core.Option.{Option, none, some}
+use mathlib.Core.List.{List}
+use mathlib.Core.Option.{none}
 use Prim.Native.Nat.{ℕ, zero, suc, _+_, _*_, _-_, _/_, _≤_, _<_, min, max}
 use native.Mathlib.Omega.{arith}
 use lib.ListN.{length, getD}
-use lib.Dec.{eqb, ltb}
+use lib.Dec.{eqb}
 use borrow.Author.Tests.{eq-eqb, eqb-true}
 use Rattle.rules.specs.Rows.{largest, smallest, lowest}
-use Rattle.rules.specs.Table.{Table, latest, mostCost, jobCount, release, cost, deadline, arcCount, before, after, precedes}
+use Rattle.rules.specs.Table.{latest, precedes}
 use Rattle.rules.specs.Times.{lift, releaseTo, liftedTo, newRelease, liftedDeadline, timesTo}
-use Rattle.rules.specs.Refusals.{Fault, atRow, tooShort}
+use Rattle.rules.specs.Refusals.{atRow, tooShort}
 use Rattle.laws.specs.Tests.{Says, so, not-so, lt-says, yes-says, no-says, says-yes}
 use Rattle.laws.specs.Rows.{largest-base, largest-at, largest-most, largest-ext, lowest-ext}
-use Rattle.laws.specs.Reach.{Arc, precedes-says}
-use Rattle.laws.specs.Refusals.{RowsRight, JobIn, rows-none}
+use Rattle.laws.specs.Reach.{precedes-says}
+use Rattle.laws.specs.Refusals.{RowsRight, rows-none}
 use Rattle.rows.specs.Lists.{table}
-use Rattle.plan.specs.declared.times.Way.the-variants.{Forward, Back}
-use Rattle.plan.specs.Rounds.{JobsIn, ArcIn, ArcsIn, Holds, Fit, sourceOf, targetOf, roundTo, short, windowFound, pairsTo}
+use Rattle.plan.specs.declared.modified.Way.the-variants.{Forward, Back}
+use Rattle.plan.specs.Rounds.{JobsIn, ArcsIn, Holds, Fit, sourceOf, targetOf, roundTo, short, windowFound, pairsTo}
 
 -- the largest over the arcs to j is the largest over the jobs that lead to j
 by-arcs : (source target : ℕ → ℕ) (leads : ℕ → Bool) (f : ℕ → ℕ) (base m n j : ℕ)
@@ -33,8 +33,8 @@ by-arcs source target leads f base m n j there back =
       largest-most leads f base n (largest (λ a. eqb (target a) j) (λ a. f (source a)) base m)
           (largest-base (λ a. eqb (target a) j) (λ a. f (source a)) base m)
           (λ i l e.
-              let (a, q, s, t) = back i e in
-              rw (← s) (largest-at (λ a. eqb (target a) j) (λ a. f (source a)) base m a q (eq-eqb (target a) j t))),
+          let (a, q, s, t) = back i e in
+          rw (← s) (largest-at (λ a. eqb (target a) j) (λ a. f (source a)) base m a q (eq-eqb (target a) j t))),
     )
 
 -- the smallest is the largest in the mirror

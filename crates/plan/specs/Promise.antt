@@ -1,37 +1,14 @@
 -- The promise of `plan`: its answer and the lent list are what the rules give, for every input.
-use mathlib.Core.Path.{_≡_, refl, sym, _∙_, ap}
-use mathlib.Core.Bool.{Bool, true, false, cond}
+use mathlib.Core.Path.{_≡_, sym, _∙_}
 use mathlib.Core.List.{List, [], _∷_, _++_}
 use mathlib.Core.Option.{Option, none, some}
 use Prim.Native.Nat.{ℕ, _*_, _≤_, _<_}
 use lib.ListN.{length, drop}
-use lib.Dec.{leb}
 use borrow.Author.Tests.{le-leb, lt-leb}
 use Rattle.rules.specs.Rows.{lowest}
-use Rattle.rules.specs.Table.{Table, Plan, jobCount, sectionCount}
+use Rattle.rules.specs.Table.{Table, jobCount, sectionCount}
 use Rattle.rules.specs.Times.{timesTo}
-use Rattle.rules.specs.Refusals.{
-  Fault,
-  fault,
-  faultOf,
-  Outcome,
-  refused,
-  gives,
-  andThen,
-  firstOf,
-  unless,
-  atRow,
-  countFaults,
-  rowFaults,
-  planFaults,
-  clashes,
-  onCycle,
-  tooShort,
-  checkFault,
-  planOf,
-  check,
-  room,
-}
+use Rattle.rules.specs.Refusals.{Fault, fault, faultOf, Outcome, refused, gives, andThen, firstOf, unless, atRow, planFaults, clashes, onCycle, tooShort, checkFault, planOf, check, room}
 use Rattle.rules.specs.declared.Refusal.{Refusal}
 use Rattle.rules.specs.declared.Refusal.the-variants.{Room}
 use Rattle.laws.specs.Times.{times-length}

@@ -1,10 +1,9 @@
 -- Rounds over the arcs: after k rounds each job has what 01's equations give it, cut at depth k.
 use mathlib.Core.Path.{_≡_, refl, sym, _∙_, ap}
-use mathlib.Core.Logic.{_⊎_, inl, inr, ⊎-elim}
-use mathlib.Core.Bool.{Bool, true, false, cond, _&&_, _||_}
+use mathlib.Core.Bool.{Bool, false, cond}
 use mathlib.Core.List.{List, [], _∷_, _++_, append-assoc}
 use mathlib.Core.Option.{Option, none, some}
-use Prim.Native.Nat.{ℕ, zero, suc, _+_, _*_, _-_, _/_, _≤_, _<_, min, max}
+use Prim.Native.Nat.{ℕ, zero, suc, _+_, _*_, _-_, _/_, _≤_, _<_, max}
 use native.Mathlib.Numerals.{add-one}
 use native.Mathlib.Decide.{ℕ-discrete}
 use native.Mathlib.Omega.{arith}
@@ -12,18 +11,14 @@ use lib.ListN.{length, getD, set, drop, length-set, length-append}
 use lib.Seq.{getD-set-same, getD-set-other, set-getD, set-at, drop-cons}
 use lib.Dec.{eqb, ltb}
 use borrow.Author.Count.{below-more}
-use borrow.Author.Tests.{eq-eqb, ne-eqb, eqb-true, lt-ltb}
-use Rattle.rules.specs.Rows.{largest, smallest, lowest}
-use Rattle.rules.specs.Table.{Table, latest, mostCost, mostJobs, jobCount, release, cost, deadline, arcCount, before, after, precedes}
-use Rattle.rules.specs.Times.{lift, releaseTo, liftedTo, newRelease, liftedDeadline, timesTo}
-use Rattle.rules.specs.Refusals.{Fault, fault, atRow, tooShort}
-use Rattle.laws.specs.Tests.{Says, yes-says, says-yes}
-use Rattle.laws.specs.Rows.{largest-base, largest-at, largest-most, largest-ext, lowest-ext}
-use Rattle.laws.specs.Reach.{Arc, precedes-says}
-use Rattle.rows.specs.Lists.{table}
+use borrow.Author.Tests.{eq-eqb, ne-eqb, lt-ltb}
+use Rattle.rules.specs.Rows.{largest, lowest}
+use Rattle.rules.specs.Table.{latest, mostCost, mostJobs}
+use Rattle.rules.specs.Refusals.{Fault, fault, atRow}
+use Rattle.laws.specs.Rows.{largest-most, largest-ext}
 use Rattle.rows.specs.Stages.{at-found, at-none}
-use Rattle.plan.specs.declared.times.Way.{Way}
-use Rattle.plan.specs.declared.times.Way.the-variants.{Forward, Back}
+use Rattle.plan.specs.declared.modified.Way.{Way}
+use Rattle.plan.specs.declared.modified.Way.the-variants.{Forward, Back}
 
 -- ---- definitions
 
@@ -226,8 +221,8 @@ module _ (jobs arcs : List ℕ) (way : Way) where
   round-low (suc k) j J A l =
       largest-most _ _ (startOf jobs way j) (length arcs / 2) (latest + suc k * mostCost) (omega (arith, start-in jobs way j J l))
       (λ a q e.
-          let s = source-in a (A a q) in
-          omega (arith, round-low k (sourceOf arcs way a) J A s, gain-in jobs way (sourceOf arcs way a) J s))
+      let s = source-in a (A a q) in
+      omega (arith, round-low k (sourceOf arcs way a) J A s, gain-in jobs way (sourceOf arcs way a) J s))
 
   pub holds-low : (v : List ℕ) (k : ℕ) → k ≤ 64 → JobsIn jobs → ArcsIn jobs arcs → Holds jobs (roundTo jobs arcs way k) v → Low jobs v
   holds-low v k h J A H = record { size = H .size; at = λ j l. omega (arith, H .at j l, round-low k j J A l) }
@@ -272,6 +267,7 @@ pairs-more releases tails lent times j h e =
   where
     more : pairsTo releases tails j ++ (getD releases j 0 ∷ (latest - getD tails j 0) ∷ []) ≡ pairsTo releases tails (j + 1)
     more = rw add-one
+
     two : drop (2 * j) lent ≡ getD lent (2 * j) 0 ∷ getD lent (2 * j + 1) 0 ∷ drop (2 * (j + 1)) lent
     two =
         let s : suc (2 * j) ≡ 2 * j + 1 = omega arith in

@@ -1,7 +1,7 @@
 -- What the promises say: they settle every result, and of the times that `plan` leaves they say what 01 and 003 say.
 use mathlib.Core.Path.{_≡_, refl, sym, _∙_, ap}
 use mathlib.Core.Bool.{Bool, true, false}
-use mathlib.Core.List.{List, [], _∷_, _++_}
+use mathlib.Core.List.{List, _++_}
 use mathlib.Core.Option.{Option, none, some}
 use Prim.Native.Nat.{ℕ, _+_, _*_, _-_, _≤_, _<_}
 use native.Mathlib.Omega.{arith}
@@ -9,15 +9,14 @@ use lib.ListN.{length, getD, take, drop, List·getD-append}
 use lib.Seq.{take-at}
 use lib.Dec.{leb}
 use borrow.Author.Tests.{leb-true}
-use Rattle.rules.specs.Rows.{largest, smallest}
-use Rattle.rules.specs.Table.{Table, Plan, latest, jobCount, release, cost, deadline, precedes, modifiedRelease, modifiedDeadline}
+use Rattle.rules.specs.Table.{Table, Plan, latest, jobCount, release, cost, deadline, modifiedRelease, modifiedDeadline}
 use Rattle.rules.specs.Times.{lift, newRelease, liftedDeadline, timesTo}
-use Rattle.rules.specs.Refusals.{Fault, faultOf, Outcome, refused, gives, andThen, unless, demand, room, checkFault, planOf, check, planInBounds}
+use Rattle.rules.specs.Refusals.{Fault, faultOf, gives, andThen, unless, demand, room, checkFault, planOf, check, planInBounds}
 use Rattle.laws.specs.Answers.{fault-settles}
 use Rattle.laws.specs.Rows.{largest-ext, smallest-ext}
-use Rattle.laws.specs.Reach.{Ancestor, precedes-inside, ancestor-inside}
-use Rattle.laws.specs.Times.{releaseFrom, deadlineFrom, release-equation, deadline-equation, release-only, deadline-only, times-length, times-at}
-use Rattle.laws.specs.Refusals.{Accepted, RowsRight, JobIn, accepted-facts}
+use Rattle.laws.specs.Reach.{Ancestor, ancestor-inside}
+use Rattle.laws.specs.Times.{releaseFrom, deadlineFrom, release-equation, deadline-equation, release-only, deadline-only, times-length}
+use Rattle.laws.specs.Refusals.{Accepted, accepted-facts}
 use Rattle.laws.specs.Accepted.{arcs-inside, plan-release, plan-deadline, window, due, consistent, plan-in-bounds}
 use Rattle.plan.specs.declared.Planned.{Planned}
 use Rattle.plan.specs.declared.Planned.the-variants.{Refused, Times}
@@ -54,6 +53,7 @@ given t lent n left P = go (checkFault t) refl (P .answer-is) (P .left-is)
   where
     times : List ℕ
     times = timesTo t (jobCount t)
+
     roomy : (b : Bool) → leb (length times) (length lent) ≡ b → checkFault t ≡ none
         → gives n ≡ counted (unless (demand b 11) times) → left ≡ written (unless (demand b 11) times) lent → Given t lent n left
     roomy true h e a l =
@@ -65,6 +65,7 @@ given t lent n left P = go (checkFault t) refl (P .answer-is) (P .left-is)
           front = rw f l;
         }
     roomy false h e a l = let z : _≡_ {A = ℕ} 0 1 = cc in absurd (omega arith)
+
     go : (o : Option Fault) → checkFault t ≡ o
         → gives n ≡ counted (andThen (unless o (planOf t)) (λ p. unless (room (length (p .times)) (length lent)) (p .times)))
         → left ≡ written (andThen (unless o (planOf t)) (λ p. unless (room (length (p .times)) (length lent)) (p .times))) lent
@@ -120,9 +121,10 @@ module _ {t : Table} {lent : List ℕ} {n : ℕ} {left : List ℕ} (P : Plans t 
   pub times-only : (r d : ℕ → ℕ) → Solves t r d
       → (j : ℕ) → j < jobCount t → (r j ≡ modifiedRelease (leftPlan t left) j) × (d j ≡ modifiedDeadline (leftPlan t left) j)
   times-only r d S j l =
-      let inside = arcs-inside t (facts .rows) in
-      (release-only t inside (facts .acyclic) r (S .release-is) j l ∙ sym (left-release j l),
-      omega (arith, deadline-only t inside (facts .acyclic) (λ i. lift + d i) (S .deadline-is) j l, left-deadline j l))
+      let inside = arcs-inside t (facts .rows) in (
+        release-only t inside (facts .acyclic) r (S .release-is) j l ∙ sym (left-release j l),
+        omega (arith, deadline-only t inside (facts .acyclic) (λ i. lift + d i) (S .deadline-is) j l, left-deadline j l),
+      )
 
   -- 003, definition 3.1: along every chain of arcs releases do not fall and deadlines rise.
   pub times-consistent : {i j : ℕ} → Ancestor t i j
@@ -130,9 +132,10 @@ module _ {t : Table} {lent : List ℕ} {n : ℕ} {left : List ℕ} (P : Plans t 
       × (modifiedDeadline (leftPlan t left) i < modifiedDeadline (leftPlan t left) j)
   times-consistent {i} {j} a =
       let (p, q) = ancestor-inside t (arcs-inside t (facts .rows)) a in
-      let (r, d) = consistent t facts a in
-      (rw (left-at (2 * i) (omega arith), left-at (2 * j) (omega arith)) r,
-      rw (left-at (2 * i + 1) (omega arith), left-at (2 * j + 1) (omega arith)) d)
+      let (r, d) = consistent t facts a in (
+        rw (left-at (2 * i) (omega arith), left-at (2 * j) (omega arith)) r,
+        rw (left-at (2 * i + 1) (omega arith), left-at (2 * j + 1) (omega arith)) d,
+      )
 
   -- They lie in 0 to 1,000,000, and each window is at least the cost.
   pub times-in : (j : ℕ) → j < jobCount t

@@ -1,15 +1,10 @@
-use Rattle.cycles.specs.Chains.{Upto, upto-none, upto-more, upto-end}
-use lib.ListN.{length, length-set}
+-- Invariant: the words hold the arcs gone through.
 use Prim.Native.Nat.{_≤_, _<_, _-_}
-use mathlib.Core.Path.{_≡_, refl}
 use native.Mathlib.Omega.{arith}
 use borrow.Author.Needs.{needs}
 use Rattle.cycles.proofs.direct.Statement.{statement}
 use Rattle.cycles.proofs.direct.Tie as tie
-use Rattle.cycles.proofs.direct.Reads as reads
-use Rattle.cycles.proofs.direct.Lts as lts
-use Rattle.cycles.proofs.wide.Reads as wide-reads
-use Rattle.cycles.proofs.with.Reads as with-reads
+use Rattle.cycles.specs.Chains.{Upto, upto-none, upto-more, upto-end}
 
 abbrev Inv-loop : tie.InvT-loop
 Inv-loop arcs m words₀ a₀ words a = (a ≤ m) × Upto arcs a words

@@ -1,9 +1,8 @@
-use Rattle.cycles.specs.Words.{has-is}
+-- The shifted word's last digit is the word's digit at the job.
 use borrow.Author.Needs.{needs}
 use Rattle.cycles.proofs.holds.Statement.{statement}
 use Rattle.cycles.proofs.holds.Tie as tie
-use Rattle.cycles.proofs.holds.Reads as reads
-use Rattle.cycles.proofs.holds.Lts as lts
+use Rattle.cycles.specs.Words.{has-is}
 
 shr-result : tie.Need-shr-result
 shr-result c = search needs

@@ -1,11 +1,9 @@
-use Rattle.cycles.specs.Words.{joined-yes, joined-no}
+-- Both ways of the definition.
 use mathlib.Core.Path.{sym, _∙_}
 use borrow.Author.Needs.{needs}
 use Rattle.cycles.proofs.join.Statement.{statement}
 use Rattle.cycles.proofs.join.Tie as tie
-use Rattle.cycles.proofs.join.Reads as reads
-use Rattle.cycles.proofs.join.Lts as lts
-use Rattle.cycles.proofs.holds.Reads as holds-reads
+use Rattle.cycles.specs.Words.{joined-yes, joined-no}
 
 holds-requires : tie.Need-holds-requires
 holds-requires c κs = search needs

@@ -1,14 +1,11 @@
-use Rattle.cycles.specs.Chains.{cycle-found, cycles-are, cycles-ready}
-use Rattle.rows.specs.Stages.{told, last-of}
-use Rattle.rows.specs.Judged.{faultIn}
+-- What 2 to 8 find is the answer, else what 9 finds. Where 2 to 7 find nothing, every arc names jobs below 64.
 use mathlib.Core.Path.{refl, sym, _∙_, ap}
 use borrow.Author.Needs.{needs}
+use Rattle.rows.specs.Judged.{faultIn}
+use Rattle.rows.specs.Stages.{told, last-of}
 use Rattle.cycles.proofs.judge_cycles.Statement.{statement}
 use Rattle.cycles.proofs.judge_cycles.Tie as tie
-use Rattle.cycles.proofs.judge_cycles.Reads as reads
-use Rattle.cycles.proofs.judge_cycles.Lts as lts
-use Rattle.cycles.proofs.lowest_on_cycle.Reads as lowest-on-cycle-reads
-use Rattle.rows.proofs.judge_clashes.Reads as judge-clashes-reads
+use Rattle.cycles.specs.Chains.{cycle-found, cycles-are, cycles-ready}
 
 judge-clashes-requires : tie.Need-judge-clashes-requires
 judge-clashes-requires c κs = search needs

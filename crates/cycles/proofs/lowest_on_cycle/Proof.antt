@@ -1,19 +1,16 @@
-use Rattle.cycles.specs.Chains.{cycle-is, cycle-at, cycle-none}
-use Rattle.rows.specs.Lists.{table}
-use Rattle.rules.specs.Refusals.{onCycle}
-use borrow.Author.Count.{below-none, below-more}
-use mathlib.Core.List.{[]}
+-- Invariant: no job gone through is on a cycle. A job is on one where its own word holds it.
 use mathlib.Core.Bool.{false}
+use mathlib.Core.List.{[]}
 use mathlib.Core.Path.{_≡_, sym, _∙_}
 use Prim.Native.Nat.{ℕ, _≤_, _<_, _-_}
 use native.Mathlib.Omega.{arith}
+use borrow.Author.Count.{below-none, below-more}
 use borrow.Author.Needs.{needs}
+use Rattle.rules.specs.Refusals.{onCycle}
+use Rattle.rows.specs.Lists.{table}
 use Rattle.cycles.proofs.lowest_on_cycle.Statement.{statement}
 use Rattle.cycles.proofs.lowest_on_cycle.Tie as tie
-use Rattle.cycles.proofs.lowest_on_cycle.Reads as reads
-use Rattle.cycles.proofs.lowest_on_cycle.Lts as lts
-use Rattle.cycles.proofs.holds.Reads as holds-reads
-use Rattle.cycles.proofs.reached.Reads as reached-reads
+use Rattle.cycles.specs.Chains.{cycle-is, cycle-at, cycle-none}
 
 abbrev Inv-loop : tie.InvT-loop
 Inv-loop jobs arcs n words j₀ j = (j ≤ n) × ((k : ℕ) → k < j → onCycle (table jobs arcs []) k ≡ false)

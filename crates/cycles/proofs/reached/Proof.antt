@@ -1,13 +1,10 @@
-use Rattle.cycles.specs.Chains.{Reached, reached-none, reached-more, reached-end}
+-- Invariant: the words hold the chains whose inner jobs are below k.
 use Prim.Native.Nat.{_≤_, _-_}
 use native.Mathlib.Omega.{arith}
 use borrow.Author.Needs.{needs}
 use Rattle.cycles.proofs.reached.Statement.{statement}
 use Rattle.cycles.proofs.reached.Tie as tie
-use Rattle.cycles.proofs.reached.Reads as reads
-use Rattle.cycles.proofs.reached.Lts as lts
-use Rattle.cycles.proofs.direct.Reads as direct-reads
-use Rattle.cycles.proofs.through.Reads as through-reads
+use Rattle.cycles.specs.Chains.{Reached, reached-none, reached-more, reached-end}
 
 abbrev Inv-loop : tie.InvT-loop
 Inv-loop arcs n words₀ k₀ words k = (k ≤ n) × Reached arcs n k words

@@ -1,13 +1,11 @@
-use Rattle.cycles.specs.Chains.{Passed, passed-none, passed-more, passed-end}
-use lib.ListN.{getD}
+-- Invariant: the words gone through are joined with the word of k as it was at the start, the others are as they were.
 use Prim.Native.Nat.{_-_}
 use native.Mathlib.Omega.{arith}
+use lib.ListN.{getD}
 use borrow.Author.Needs.{needs}
 use Rattle.cycles.proofs.through.Statement.{statement}
 use Rattle.cycles.proofs.through.Tie as tie
-use Rattle.cycles.proofs.through.Reads as reads
-use Rattle.cycles.proofs.through.Lts as lts
-use Rattle.cycles.proofs.join.Reads as join-reads
+use Rattle.cycles.specs.Chains.{Passed, passed-none, passed-more, passed-end}
 
 abbrev Inv-loop : tie.InvT-loop
 Inv-loop words₀ n k next i₀ words i = Passed n k (getD words₀ k 0) words₀ words i

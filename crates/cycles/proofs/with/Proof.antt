@@ -1,9 +1,8 @@
-use Rattle.cycles.specs.Words.{insert-is}
+-- The shifted one is the set of that job alone.
 use borrow.Author.Needs.{needs}
 use Rattle.cycles.proofs.with.Statement.{statement}
 use Rattle.cycles.proofs.with.Tie as tie
-use Rattle.cycles.proofs.with.Reads as reads
-use Rattle.cycles.proofs.with.Lts as lts
+use Rattle.cycles.specs.Words.{insert-is}
 
 shl-result : tie.Need-shl-result
 shl-result c = search needs

@@ -1,3 +1,4 @@
+-- The answers to its three parts make up the judgement.
 use mathlib.Core.Path.{refl, sym}
 use borrow.Author.Needs.{needs}
 use borrow.Author.Tests.{eq-eqb, ne-eqb}

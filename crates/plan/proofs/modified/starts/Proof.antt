@@ -1,15 +1,13 @@
-use Rattle.plan.specs.Rounds.{startOf, fill-more}
-use borrow.Author.Count.{below-none}
-use lib.ListN.{length, getD, length-set}
+-- Invariant: each job gone through has what it has by itself.
 use mathlib.Core.Path.{_≡_, refl}
 use Prim.Native.Nat.{ℕ, _≤_, _<_, _-_}
 use native.Mathlib.Omega.{arith}
+use lib.ListN.{length, getD, length-set}
+use borrow.Author.Count.{below-none}
 use borrow.Author.Needs.{needs}
-use Rattle.plan.proofs.times.starts.Statement.{statement}
-use Rattle.plan.proofs.times.starts.Tie as tie
-use Rattle.plan.proofs.times.starts.Reads as reads
-use Rattle.plan.proofs.times.starts.Lts as lts
-use Rattle.plan.proofs.times.start.Reads as start-reads
+use Rattle.plan.specs.Rounds.{startOf, fill-more}
+use Rattle.plan.proofs.modified.starts.Statement.{statement}
+use Rattle.plan.proofs.modified.starts.Tie as tie
 
 abbrev Inv-loop : tie.InvT-loop
 Inv-loop jobs way n v₀ j₀ v j = (j ≤ n) × (length v ≡ 64) × ((k : ℕ) → k < j → getD v k 0 ≡ startOf jobs way k)
@@ -37,9 +35,11 @@ loop-less : tie.Need-loop-less Inv-loop μ-loop
 loop-less c = search needs
 
 loop-again : tie.Need-loop-again Inv-loop μ-loop
-loop-again c = let l = c .before .before in
-    (omega arith, rw length-set (l .loop .inv .1),
-    fill-more _ (l .loop .v) (l .loop .j) _ (omega (arith, l .loop .inv .1)) (c .start .ensures) (l .loop .inv .2))
+loop-again c = let l = c .before .before in (
+  omega arith,
+  rw length-set (l .loop .inv .1),
+  fill-more _ (l .loop .v) (l .loop .j) _ (omega (arith, l .loop .inv .1)) (c .start .ensures) (l .loop .inv .2),
+)
 
 returns : tie.Need-returns Inv-loop μ-loop
 returns c = let l = c .before .loop in

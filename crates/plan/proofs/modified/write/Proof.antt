@@ -1,14 +1,13 @@
-use Rattle.plan.specs.Rounds.{pairsTo, pairs-none, pairs-more, pairs-end}
-use lib.ListN.{length, drop, length-set}
+-- Invariant: the pairs of the jobs gone through stand in front of the rest of the lent list.
 use mathlib.Core.List.{_++_}
 use mathlib.Core.Path.{_≡_, refl}
 use Prim.Native.Nat.{_≤_, _*_, _-_}
 use native.Mathlib.Omega.{arith}
+use lib.ListN.{length, drop, length-set}
 use borrow.Author.Needs.{needs}
-use Rattle.plan.proofs.times.write.Statement.{statement}
-use Rattle.plan.proofs.times.write.Tie as tie
-use Rattle.plan.proofs.times.write.Reads as reads
-use Rattle.plan.proofs.times.write.Lts as lts
+use Rattle.plan.specs.Rounds.{pairsTo, pairs-none, pairs-more, pairs-end}
+use Rattle.plan.proofs.modified.write.Statement.{statement}
+use Rattle.plan.proofs.modified.write.Tie as tie
 
 abbrev Inv-loop : tie.InvT-loop
 Inv-loop times₀ n releases tails j₀ times j = (j ≤ n) × (length times ≡ length times₀) × (times ≡ pairsTo releases tails j ++ drop (2 * j) times₀)

@@ -1,9 +1,7 @@
+-- Each way has its own order of the two ends.
 use borrow.Author.Needs.{needs}
-use Rattle.plan.proofs.times.ends_of.Statement.{statement}
-use Rattle.plan.proofs.times.ends_of.Tie as tie
-use Rattle.plan.proofs.times.ends_of.Reads as reads
-use Rattle.plan.proofs.times.ends_of.Lts as lts
-use Rattle.plan.proofs.times.wide.Reads as wide-reads
+use Rattle.plan.proofs.modified.ends_of.Statement.{statement}
+use Rattle.plan.proofs.modified.ends_of.Tie as tie
 
 mul-wide : tie.Need-mul-wide
 mul-wide c = search needs

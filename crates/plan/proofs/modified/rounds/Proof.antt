@@ -1,13 +1,10 @@
-use Rattle.plan.specs.Rounds.{Holds, roundTo, holds-low, round-none, round-more, round-end}
+-- Invariant: each job has what k rounds give it, at most k costs above 1,000,000, so the next round's sums fit.
 use Prim.Native.Nat.{_≤_, _-_}
 use native.Mathlib.Omega.{arith}
 use borrow.Author.Needs.{needs}
-use Rattle.plan.proofs.times.rounds.Statement.{statement}
-use Rattle.plan.proofs.times.rounds.Tie as tie
-use Rattle.plan.proofs.times.rounds.Reads as reads
-use Rattle.plan.proofs.times.rounds.Lts as lts
-use Rattle.plan.proofs.times.round.Reads as round-reads
-use Rattle.plan.proofs.times.starts.Reads as starts-reads
+use Rattle.plan.specs.Rounds.{Holds, roundTo, holds-low, round-none, round-more, round-end}
+use Rattle.plan.proofs.modified.rounds.Statement.{statement}
+use Rattle.plan.proofs.modified.rounds.Tie as tie
 
 abbrev Inv-loop : tie.InvT-loop
 Inv-loop jobs arcs way n v₀ k₀ v k = (k ≤ n) × Holds jobs (roundTo jobs arcs way k) v

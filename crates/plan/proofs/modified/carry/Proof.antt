@@ -1,23 +1,21 @@
-use Rattle.plan.specs.Rounds.{source-in, target-in, gain-in, carry-more, carry-keeps}
-use lib.ListN.{length}
+-- The target is raised where the arc brings more, and kept where not. The ends of the arc are jobs, so the sum fits.
 use Prim.Native.Nat.{_/_, _<_}
 use native.Mathlib.Omega.{arith}
+use lib.ListN.{length}
 use borrow.Author.Needs.{needs}
-use Rattle.plan.proofs.times.carry.Statement.{statement}
-use Rattle.plan.proofs.times.carry.Tie as tie
-use Rattle.plan.proofs.times.carry.Reads as reads
-use Rattle.plan.proofs.times.carry.Lts as lts
-use Rattle.plan.proofs.times.ends_of.Reads as ends-of-reads
-use Rattle.plan.proofs.times.gain.Reads as gain-reads
+use Rattle.plan.specs.Rounds.{source-in, target-in, gain-in, carry-more, carry-keeps}
+use Rattle.plan.proofs.modified.carry.Statement.{statement}
+use Rattle.plan.proofs.modified.carry.Tie as tie
 
 -- the ends of the arc are jobs of the table
 inside : (c : tie.After-ends-of)
     → (c .ends-of .result .source < length (c .before .before .before .args .jobs .now) / 3)
     × (c .ends-of .result .target < length (c .before .before .before .args .jobs .now) / 3)
 inside c =
-    let s = c .before .before .before in
-    (rw (c .ends-of .ensures .0) (source-in _ _ (s .args .way) _ (s .pre .1)),
-    rw (c .ends-of .ensures .1) (target-in _ _ (s .args .way) _ (s .pre .1)))
+    let s = c .before .before .before in (
+      rw (c .ends-of .ensures .0) (source-in _ _ (s .args .way) _ (s .pre .1)),
+      rw (c .ends-of .ensures .1) (target-in _ _ (s .args .way) _ (s .pre .1)),
+    )
 
 ends-of-requires : tie.Need-ends-of-requires
 ends-of-requires c κs = search needs

@@ -1,15 +1,14 @@
-use Rattle.plan.specs.Rounds.{short, window-at, window-none}
-use borrow.Author.Tests.{le-ltb}
-use borrow.Author.Count.{below-none, below-more}
+-- Invariant: no job gone through has a window below its cost, said by tails.
 use mathlib.Core.Bool.{false}
 use mathlib.Core.Path.{_≡_}
 use Prim.Native.Nat.{ℕ, _≤_, _<_, _-_}
 use native.Mathlib.Omega.{arith}
+use borrow.Author.Count.{below-none, below-more}
 use borrow.Author.Needs.{needs}
-use Rattle.plan.proofs.times.judge_windows.Statement.{statement}
-use Rattle.plan.proofs.times.judge_windows.Tie as tie
-use Rattle.plan.proofs.times.judge_windows.Reads as reads
-use Rattle.plan.proofs.times.judge_windows.Lts as lts
+use borrow.Author.Tests.{le-ltb}
+use Rattle.plan.specs.Rounds.{short, window-at, window-none}
+use Rattle.plan.proofs.modified.judge_windows.Statement.{statement}
+use Rattle.plan.proofs.modified.judge_windows.Tie as tie
 
 abbrev Inv-loop : tie.InvT-loop
 Inv-loop jobs releases tails n j₀ j = (j ≤ n) × ((k : ℕ) → k < j → short jobs releases tails k ≡ false)

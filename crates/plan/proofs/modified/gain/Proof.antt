@@ -1,9 +1,8 @@
+-- Each way has its own gain.
 use mathlib.Core.Path.{refl}
 use borrow.Author.Needs.{needs}
-use Rattle.plan.proofs.times.gain.Statement.{statement}
-use Rattle.plan.proofs.times.gain.Tie as tie
-use Rattle.plan.proofs.times.gain.Reads as reads
-use Rattle.plan.proofs.times.gain.Lts as lts
+use Rattle.plan.proofs.modified.gain.Statement.{statement}
+use Rattle.plan.proofs.modified.gain.Tie as tie
 
 enum-told : tie.Need-enum-told
 enum-told c = search needs

@@ -1,13 +1,10 @@
-use Rattle.plan.specs.Rounds.{Holds, broughtTo, brought-none, brought-more, brought-end}
+-- Invariant: each job has the largest of its start and what the arcs gone through bring it.
 use Prim.Native.Nat.{_≤_, _-_}
 use native.Mathlib.Omega.{arith}
 use borrow.Author.Needs.{needs}
-use Rattle.plan.proofs.times.round.Statement.{statement}
-use Rattle.plan.proofs.times.round.Tie as tie
-use Rattle.plan.proofs.times.round.Reads as reads
-use Rattle.plan.proofs.times.round.Lts as lts
-use Rattle.plan.proofs.times.carry.Reads as carry-reads
-use Rattle.plan.proofs.times.starts.Reads as starts-reads
+use Rattle.plan.specs.Rounds.{Holds, broughtTo, brought-none, brought-more, brought-end}
+use Rattle.plan.proofs.modified.round.Statement.{statement}
+use Rattle.plan.proofs.modified.round.Tie as tie
 
 abbrev Inv-loop : tie.InvT-loop
 Inv-loop jobs arcs way old m new₀ a₀ new a = (a ≤ m) × Holds jobs (broughtTo jobs arcs way old a) new

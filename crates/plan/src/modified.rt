@@ -2,6 +2,7 @@
 // arcs and deadlines back. A deadline is worked on as its tail, how long before 1,000,000 it lies: then both ways take the
 // largest, a deadline less a cost is a tail and that cost, and nothing falls below zero.
 use rows::Judged;
+use rows::LATEST;
 use rules::Refusal;
 ghost use mathlib.Core.Path.{_≡_};
 ghost use mathlib.Core.List.{_++_};
@@ -9,8 +10,6 @@ ghost use Prim.Native.Nat.{_+_, _*_, _/_, _<_, _≤_};
 ghost use lib.ListN.{length, getD, drop};
 ghost use Rattle.rows.specs.Judged.{faultIn};
 ghost use Rattle.plan.specs.Rounds.{JobsIn, ArcIn, ArcsIn, Low, Holds, Fit, sourceOf, targetOf, startOf, gainOf, raised, brought, broughtTo, roundTo, windowFound, pairsTo};
-
-const LATEST: u32 = 1_000_000;
 
 // Releases go forward along the arcs, deadlines back.
 pub enum Way {
@@ -88,10 +87,8 @@ fn starts(jobs: &[u32], way: Way) -> [u32; 64]
 // The target of an arc gets at least what its source had in the round before, with the gain.
 fn carry(jobs: &[u32], arcs: &[u32], way: Way, a: usize, old: &[u32; 64], new: &mut [u32; 64])
     requires { ⌜ JobsIn (now jobs) × ArcIn (now jobs) (now arcs) a × Low (now jobs) (now old) × (length (now new) ≡ 64) ⌝ }
-    ensures {
-      λ _. ⌜ now (new .exit) ≡ raised (now (new .entry)) (targetOf (now (arcs .entry)) way a)
-        (brought (now (jobs .entry)) (now (arcs .entry)) way (now (old .entry)) a) ⌝
-    }
+    ensures { λ _. ⌜ now (new .exit) ≡ raised (now (new .entry)) (targetOf (now (arcs .entry)) way a)
+        (brought (now (jobs .entry)) (now (arcs .entry)) way (now (old .entry)) a) ⌝ }
 {
     let e = ends_of(arcs, way, a);
     let i = e.source;
@@ -105,10 +102,8 @@ fn carry(jobs: &[u32], arcs: &[u32], way: Way, a: usize, old: &[u32; 64], new: &
 // One round over the arcs.
 fn round(jobs: &[u32], arcs: &[u32], way: Way, old: &[u32; 64]) -> [u32; 64]
     requires { ⌜ JobsIn (now jobs) × ArcsIn (now jobs) (now arcs) × Low (now jobs) (now old) ⌝ }
-    ensures {
-      λ r. ⌜ Holds (now (jobs .entry))
-        (broughtTo (now (jobs .entry)) (now (arcs .entry)) way (now (old .entry)) (length (now (arcs .entry)) / 2)) r ⌝
-    }
+    ensures { λ r. ⌜ Holds (now (jobs .entry))
+        (broughtTo (now (jobs .entry)) (now (arcs .entry)) way (now (old .entry)) (length (now (arcs .entry)) / 2)) r ⌝ }
 {
     let m = arcs.len() / 2;
     let mut new = starts(jobs, way);
@@ -123,9 +118,7 @@ fn round(jobs: &[u32], arcs: &[u32], way: Way, old: &[u32; 64]) -> [u32; 64]
 // As many rounds as there are jobs.
 pub fn rounds(jobs: &[u32], arcs: &[u32], way: Way) -> [u32; 64]
     requires { ⌜ JobsIn (now jobs) × ArcsIn (now jobs) (now arcs) ⌝ }
-    ensures {
-      λ r. ⌜ Holds (now (jobs .entry)) (roundTo (now (jobs .entry)) (now (arcs .entry)) way (length (now (jobs .entry)) / 3)) r ⌝
-    }
+    ensures { λ r. ⌜ Holds (now (jobs .entry)) (roundTo (now (jobs .entry)) (now (arcs .entry)) way (length (now (jobs .entry)) / 3)) r ⌝ }
 {
     let n = jobs.len() / 3;
     let mut v = starts(jobs, way);
@@ -157,9 +150,7 @@ pub fn judge_windows(jobs: &[u32], releases: &[u32; 64], tails: &[u32; 64]) -> J
 // The times of the n jobs to the front of the lent list: a release, and the deadline of a tail.
 pub fn write(times: &mut [u32], n: usize, releases: &[u32; 64], tails: &[u32; 64])
     requires { ⌜ (n ≤ 64) × (2 * n ≤ length (now times)) × Fit n (now releases) (now tails) ⌝ }
-    ensures {
-      λ _. ⌜ now (times .exit) ≡ pairsTo (now (releases .entry)) (now (tails .entry)) n ++ drop (2 * n) (now (times .entry)) ⌝
-    }
+    ensures { λ _. ⌜ now (times .exit) ≡ pairsTo (now (releases .entry)) (now (tails .entry)) n ++ drop (2 * n) (now (times .entry)) ⌝ }
 {
     let mut j = 0;
     while j < n {
