@@ -101,7 +101,7 @@ mul-if1 : tie.Need-mul-if1
 mul-if1 c = search needs
 
 returns-3 : tie.Need-returns-3
-returns-3 c = plan-short _ _ (accepted (c .before)) (c .if1 .taken)
+returns-3 c = plan-short _ _ (accepted (c .before)) (omega arith)
 
 write-requires : tie.Need-write-requires
 write-requires c κs = let e = c .before .before .before .before in
@@ -109,7 +109,7 @@ write-requires c κs = let e = c .before .before .before .before in
     let r = before-windows w in
     let n = before-rounds r in (
       jobs n .few,
-      c .before .before .before .if1 .left,
+      omega arith,
       times-fit _ _ (given n .sections) (jobs n) (arcs n) _ _ (r .before .rounds .ensures) (r .rounds2 .ensures)
           (told (w .judge-windows .ensures) (e .enum-told2 .given .1)),
     )
@@ -127,7 +127,7 @@ returns-4 : tie.Need-returns-4
 returns-4 c = let e = c .before .before .before .before .before .before .before in
     let r = before-windows (judged e) in
     let n = before-rounds r in
-    plan-times _ _ _ _ (accepted e) (c .before .before .before .before .before .before .if1 .left) (c .before .before .write .ensures)
+    plan-times _ _ _ _ (accepted e) (omega (arith, c .before .before .before .before .before .before .if1 .left)) (c .before .before .write .ensures)
     (times-are _ _ _ (jobs n) (arcs n) _ _ (r .before .rounds .ensures) (r .rounds2 .ensures))
 
 pub plan-spec : {M : Type 1} → statement M
