@@ -55,7 +55,7 @@ array-read-with : tie.Need-array-read-with Inv-loop μ-loop
 array-read-with c = ends c .0
 
 with-requires : tie.Need-with-requires Inv-loop μ-loop
-with-requires c κs = ends c .1
+with-requires c κs = let h = ends c in omega arith
 
 mul-words : tie.Need-mul-words Inv-loop μ-loop
 mul-words c = let h = ends (c .before) in omega arith
