@@ -10,3 +10,4 @@ pub mod Refusals
 pub mod Accepted
 pub mod Keys
 pub mod Nesting
+pub mod Answers

@@ -2,12 +2,12 @@
 use mathlib.Core.Path.{_≡_, refl}
 use mathlib.Core.Bool.{Bool, false, _&&_}
 use mathlib.Core.List.{List}
-use mathlib.Core.Option.{Option}
+use mathlib.Core.Option.{Option, none, some}
 use Prim.Native.Nat.{ℕ, _+_, _*_, _-_, _≤_, _<_}
 use native.Mathlib.Omega.{arith}
 use lib.ListN.{length}
 use lib.Dec.{leb, eqb}
-use borrow.Author.Tests.{le-leb}
+use borrow.Author.Tests.{le-leb, eq-eqb, ne-eqb}
 use Rattle.rules.specs.Rows.{all}
 use Rattle.rules.specs.Table.{Plan, latest, jobCount, cost, modifiedRelease, modifiedDeadline}
 use Rattle.rules.specs.Refusals.{Fault, accepted, timesRight, planInBounds}
@@ -53,9 +53,20 @@ module _ (p : Plan) (j : ℕ) where
       go (not-so x) (so y) = absurd (omega arith)
       go (not-so x) (not-so y) = refl
 
--- the answers to its three parts make up the judgement
-pub bounds-are : (p : Plan) {found : Option Fault} {pairs times : Bool}
-    → valuesFault (p .table) ≡ found → eqb (length (p .times)) (2 * jobCount (p .table)) ≡ pairs
-    → all (timesRight p) (jobCount (p .table)) ≡ times → (accepted found && (pairs && times)) ≡ planInBounds p
-unfolding planInBounds valuesFault
-bounds-are p e q r = rw (← e, ← q, ← r)
+-- the three parts of the judgement, one after the other
+module _ (p : Plan) where
+  parts : {found : Option Fault} {pairs times : Bool}
+      → valuesFault (p .table) ≡ found → eqb (length (p .times)) (2 * jobCount (p .table)) ≡ pairs
+      → all (timesRight p) (jobCount (p .table)) ≡ times → (accepted found && (pairs && times)) ≡ planInBounds p
+  unfolding planInBounds valuesFault
+  parts e q r = rw (← e, ← q, ← r)
+
+  pub bounds-values : {f : Fault} → valuesFault (p .table) ≡ some f → false ≡ planInBounds p
+  bounds-values e = parts e refl refl
+
+  pub bounds-pairs : valuesFault (p .table) ≡ none → (length (p .times) ≡ 2 * jobCount (p .table) → ⊥) → false ≡ planInBounds p
+  bounds-pairs e h = parts e (ne-eqb _ _ h) refl
+
+  pub bounds-times : {times : Bool} → valuesFault (p .table) ≡ none → length (p .times) ≡ 2 * jobCount (p .table)
+      → all (timesRight p) (jobCount (p .table)) ≡ times → times ≡ planInBounds p
+  bounds-times e h r = parts e (eq-eqb _ _ h) r

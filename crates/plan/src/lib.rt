@@ -1,5 +1,10 @@
 // The table check with the modified times, and the judgement of a plan that is handed in.
+mod modified;
+
+use modified::Way;
 use rows::Judged;
+use rows::LATEST;
+use rules::Refusal;
 ghost use mathlib.Core.Path.{_≡_};
 ghost use mathlib.Core.List.{[]};
 ghost use Prim.Native.Nat.{_+_, _*_, _<_, _≤_};
@@ -9,8 +14,7 @@ ghost use Rattle.rules.specs.Table.{jobCount};
 ghost use Rattle.rules.specs.Refusals.{planInBounds, timesRight};
 ghost use Rattle.rows.specs.Lists.{table};
 ghost use Rattle.plan.specs.Bounds.{planWith};
-
-const LATEST: u32 = 1_000_000;
+ghost use Rattle.plan.specs.Promise.{Plans};
 
 // Whether a job's modified times lie in 0 to 1,000,000, window at least cost.
 fn times_right(jobs: &[u32], times: &[u32], j: usize) -> bool
@@ -39,11 +43,10 @@ fn all_times_right(jobs: &[u32], times: &[u32]) -> bool
     let n = jobs.len() / 3;
     let mut j = 0;
     while j < n {
-        if times_right(jobs, times, j) {
-            j += 1;
-        } else {
+        if !times_right(jobs, times, j) {
             return false;
         }
+        j += 1;
     }
     true
 }
@@ -61,4 +64,33 @@ pub fn plan_in_bounds(jobs: &[u32], arcs: &[u32], sections: &[u32], times: &[u32
         return false;
     }
     all_times_right(jobs, times)
+}
+
+// What `plan` answers: a refusal, or how many numbers stand at the front of the lent list, a pair for each job.
+pub enum Planned {
+    Refused(Refusal),
+    Times(u32),
+}
+
+// The table check, 2 to 10 in that order, then 11. An accepted table's modified times, release and deadline for each job,
+// are written to the front of `times`; a refusal writes nothing.
+pub fn plan(jobs: &[u32], arcs: &[u32], sections: &[u32], times: &mut [u32]) -> Planned
+    ensures { λ r. ⌜ Plans (table (now (jobs .entry)) (now (arcs .entry)) (now (sections .entry))) (now (times .entry)) r (now (times .exit)) ⌝ }
+{
+    let table = cycles::judge_cycles(jobs, arcs, sections);
+    if let Judged::Wrong(refusal) = table {
+        return Planned::Refused(refusal);
+    }
+    let releases = modified::rounds(jobs, arcs, Way::Forward);
+    let tails = modified::rounds(jobs, arcs, Way::Back);
+    let windows = modified::judge_windows(jobs, &releases, &tails);
+    if let Judged::Wrong(refusal) = windows {
+        return Planned::Refused(refusal);
+    }
+    let n = jobs.len() / 3;
+    if times.len() < 2 * n {
+        return Planned::Refused(Refusal::Room);
+    }
+    modified::write(times, n, &releases, &tails);
+    Planned::Times((2 * n) as u32)
 }

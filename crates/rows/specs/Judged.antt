@@ -1,13 +1,17 @@
 -- What the entries promise: the first fault that the rules in order find, spoken through 01's number and place.
--- an answer as the fault that it gives, if any
+use mathlib.Core.Path.{_≡_, refl, sym, _∙_, ap}
 use mathlib.Core.List.{[], _∷_, _++_}
 use mathlib.Core.Option.{Option, none, some}
+use Prim.Native.Nat.{ℕ}
+use native.Mathlib.Omega.{arith}
 use Rattle.rules.specs.Rows.{lowest}
 use Rattle.rules.specs.Table.{Table, sectionCount}
 use Rattle.rules.specs.Refusals.{Fault, faultOf, firstOf, atRow, countFaults, rowFaults, clashes}
+use Rattle.laws.specs.Answers.{fault-settles}
 use Rattle.rows.specs.declared.Judged.{Judged}
 use Rattle.rows.specs.declared.Judged.the-variants.{Right, Wrong}
 
+-- an answer as the fault that it gives, if any
 abbrev pub faultIn : Judged → Option Fault
 faultIn Right = none
 faultIn (Wrong r) = some (faultOf r)
@@ -21,3 +25,17 @@ valuesFault t = firstOf (countFaults t ++ rowFaults t)
 unfoldable pub clashesFault : Table → Option Fault
 unfolding countFaults rowFaults lowest clashes
 clashesFault t = firstOf (countFaults t ++ (rowFaults t ++ (atRow 8 (lowest (clashes t) (sectionCount t)) ∷ [])))
+
+-- ---- the promises settle the answers
+
+pub judged-settles : (a b : Judged) → faultIn a ≡ faultIn b → a ≡ b
+judged-settles Right Right e = refl
+judged-settles Right (Wrong s) e = let z : _≡_ {A = ℕ} 0 1 = cc in absurd (omega arith)
+judged-settles (Wrong r) Right e = let z : _≡_ {A = ℕ} 0 1 = cc in absurd (omega arith)
+judged-settles (Wrong r) (Wrong s) e = let f : faultOf r ≡ faultOf s = cc in ap Wrong (fault-settles r s f)
+
+pub values-settled : (t : Table) {a b : Judged} → faultIn a ≡ valuesFault t → faultIn b ≡ valuesFault t → a ≡ b
+values-settled t {a} {b} p q = judged-settles a b (p ∙ sym q)
+
+pub clashes-settled : (t : Table) {a b : Judged} → faultIn a ≡ clashesFault t → faultIn b ≡ clashesFault t → a ≡ b
+clashes-settled t {a} {b} p q = judged-settles a b (p ∙ sym q)

@@ -1,5 +1,4 @@
 -- Laws for the code: what each stage finds, and that the first find is the answer.
--- so many numbers are whole rows, `least` to `most` of them
 use mathlib.Core.Path.{_≡_, refl, sym, _∙_, ap}
 use mathlib.Core.Bool.{Bool, true, false, not, _&&_, _||_}
 use mathlib.Core.List.{List, [], _∷_, _++_, append-assoc}
@@ -14,12 +13,13 @@ use Rattle.rules.specs.Table.{Table, latest, mostCost, resources, jobCount, rel
 use Rattle.rules.specs.Refusals.{Fault, fault, firstOf, demand, atRow, countFaults, rowFaults, jobOut, arcOut, sectionOut, overlap, within, clash, clashes}
 use Rattle.laws.specs.Tests.{le-says, eq-says, says-and, yes-says}
 use Rattle.laws.specs.Rows.{any-from, any-end, lowest-is}
-use Rattle.laws.specs.Refusals.{AllNone, all-none, first-of-append, demand-none}
+use Rattle.laws.specs.Refusals.{AllNone, all-none, first-of-append, demand-none, RowsRight, rows-right}
 use Rattle.rows.specs.declared.Judged.{Judged}
 use Rattle.rows.specs.declared.Rule.{Rule}
 use Rattle.rows.specs.declared.Rule.the-variants.{Job, Arc, Section, Clash}
 use Rattle.rows.specs.Judged.{faultIn, valuesFault, clashesFault}
 
+-- so many numbers are whole rows, `least` to `most` of them
 unfoldable pub inRows : ℕ → ℕ → ℕ → ℕ → Bool
 inRows numbers width least most = eqb (numbers % width) 0 && (leb least (numbers / width) && leb (numbers / width) most)
 
@@ -154,3 +154,16 @@ clashes-are t p q =
 pub values-counts : (t : Table) → valuesFault t ≡ none → firstOf (countFaults t) ≡ none
 unfolding valuesFault
 values-counts t e = first-of-append (countFaults t) (rowFaults t) e .0
+
+-- where 2 to 7, and what is looked for after them, find nothing, counts and rows are right
+pub front-rows : (t : Table) (later : List (Option Fault)) → firstOf (countFaults t ++ (rowFaults t ++ later)) ≡ none → RowsRight t
+front-rows t later e =
+    rows-right t (first-of-append (countFaults t ++ rowFaults t) later (rw (append-assoc (countFaults t) (rowFaults t) later) e) .0)
+
+-- a later stage joins those before it
+pub front-later : (t : Table) (before later : List (Option Fault))
+    → firstOf (firstOf (countFaults t ++ (rowFaults t ++ before)) ∷ later) ≡ firstOf (countFaults t ++ (rowFaults t ++ (before ++ later)))
+front-later t before later =
+    front (countFaults t ++ (rowFaults t ++ before)) later
+    ∙ ap firstOf
+    (append-assoc (countFaults t) (rowFaults t ++ before) later ∙ ap (λ l. countFaults t ++ l) (append-assoc (rowFaults t) before later))

@@ -9,7 +9,8 @@ ghost use Rattle.rows.specs.Lists.{table};
 ghost use Rattle.rows.specs.Judged.{faultIn, valuesFault, clashesFault};
 ghost use Rattle.rows.specs.Stages.{inRows, numberUnder, rowsUnder, broken, stage};
 
-const LATEST: u32 = 1_000_000;
+// The latest release or deadline.
+pub const LATEST: u32 = 1_000_000;
 
 const MOST_COST: u32 = 100_000;
 

@@ -1,9 +1,11 @@
+-- Invariant: the times of all jobs gone through are right.
 use mathlib.Core.Bool.{true}
 use mathlib.Core.List.{[]}
-use mathlib.Core.Path.{sym, _≡_, refl, _∙_}
+use mathlib.Core.Path.{_≡_, refl, sym, _∙_}
 use Prim.Native.Nat.{_≤_, _-_}
 use native.Mathlib.Omega.{arith}
 use borrow.Author.Needs.{needs}
+use borrow.Author.Tests.{not-true, not-false}
 use Rattle.rules.specs.Refusals.{timesRight}
 use Rattle.rules.specs.Rows.{all}
 use Rattle.laws.specs.Rows.{all-not, all-next, all-end}
@@ -24,6 +26,9 @@ loop-holds c = (omega arith, refl)
 times-right-requires : tie.Need-times-right-requires Inv-loop μ-loop
 times-right-requires c κs = search needs
 
+returns : tie.Need-returns Inv-loop μ-loop
+returns c = sym (all-not _ _ (c .before .before .before .loop .j) (omega arith) (sym (c .before .times-right .ensures) ∙ not-true _ (c .if1 .taken)))
+
 add-j : tie.Need-add-j Inv-loop μ-loop
 add-j c = search needs
 
@@ -31,10 +36,7 @@ loop-less : tie.Need-loop-less Inv-loop μ-loop
 loop-less c = search needs
 
 loop-again : tie.Need-loop-again Inv-loop μ-loop
-loop-again c = (omega arith, all-next _ _ (c .before .before .before .loop .inv .1) (sym (c .before .times-right .ensures) ∙ c .if1 .taken))
-
-returns : tie.Need-returns Inv-loop μ-loop
-returns c = sym (all-not _ _ (c .before .before .before .loop .j) (omega arith) (sym (c .before .times-right .ensures) ∙ c .if1 .left))
+loop-again c = (omega arith, all-next _ _ (c .before .before .before .loop .inv .1) (sym (c .before .times-right .ensures) ∙ not-false _ (c .if1 .left)))
 
 returns-2 : tie.Need-returns-2 Inv-loop μ-loop
 returns-2 c = sym (all-end _ (c .before .loop .j) _ (omega arith) (c .before .loop .inv .1))
@@ -47,8 +49,8 @@ all-times-right-spec =
     μ-loop
     loop-holds
     times-right-requires
+    returns
     add-j
     loop-less
     loop-again
-    returns
     returns-2)

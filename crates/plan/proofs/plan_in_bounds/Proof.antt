@@ -1,9 +1,10 @@
-use mathlib.Core.Path.{refl, sym}
+-- The answers to its three parts make up the judgement.
+use mathlib.Core.Path.{sym}
+use native.Mathlib.Omega.{arith}
 use borrow.Author.Needs.{needs}
-use borrow.Author.Tests.{eq-eqb, ne-eqb}
 use Rattle.rules.specs.Refusals.{timesRight}
 use Rattle.rows.specs.Stages.{told}
-use Rattle.plan.specs.Bounds.{bounds-are}
+use Rattle.plan.specs.Bounds.{bounds-values, bounds-pairs, bounds-times}
 use Rattle.plan.proofs.plan_in_bounds.Statement.{statement}
 use Rattle.plan.proofs.plan_in_bounds.Tie as tie
 
@@ -14,7 +15,7 @@ enum-told : tie.Need-enum-told
 enum-told c = search needs
 
 returns : tie.Need-returns
-returns c = bounds-are _ (told (c .before .before .judge-values .ensures) (c .enum-told .given .1)) refl refl
+returns c = bounds-values _ (told (c .before .before .judge-values .ensures) (c .enum-told .given .1))
 
 enum-told-2 : tie.Need-enum-told-2
 enum-told-2 c = search needs
@@ -23,16 +24,16 @@ mul-if1 : tie.Need-mul-if1
 mul-if1 c = search needs
 
 returns-2 : tie.Need-returns-2
-returns-2 c = let j = c .before in
-    bounds-are _ (told (j .before .before .judge-values .ensures) (j .enum-told2 .given .1)) (ne-eqb _ _ (c .if1 .taken)) refl
+returns-2 c = let v = c .before in
+    bounds-pairs _ (told (v .before .before .judge-values .ensures) (v .enum-told2 .given .1)) (omega arith)
 
 all-times-right-requires : tie.Need-all-times-right-requires
 all-times-right-requires c κs = search needs
 
 returns-3 : tie.Need-returns-3
 unfolding timesRight
-returns-3 c = let j = c .before .before in
-    bounds-are _ (told (j .before .before .judge-values .ensures) (j .enum-told2 .given .1)) (eq-eqb _ _ (c .before .if1 .left)) (sym (c .all-times-right .ensures))
+returns-3 c = let v = c .before .before in
+    bounds-times _ (told (v .before .before .judge-values .ensures) (v .enum-told2 .given .1)) (omega arith) (sym (c .all-times-right .ensures))
 
 pub plan-in-bounds-spec : {M : Type 1} → statement M
 plan-in-bounds-spec =

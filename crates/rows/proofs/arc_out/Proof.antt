@@ -1,3 +1,4 @@
+-- The first end that is no job rules the arc out; else the second end decides.
 use mathlib.Core.Path.{sym}
 use native.Mathlib.Omega.{arith}
 use borrow.Author.Needs.{needs}

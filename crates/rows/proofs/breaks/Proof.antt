@@ -1,3 +1,4 @@
+-- Each rule has its own test, on the lists that it reads.
 use native.Mathlib.Omega.{arith}
 use borrow.Author.Needs.{needs}
 use Rattle.rules.specs.Refusals.{jobOut, arcOut, sectionOut, overlap, within, clash, clashes}

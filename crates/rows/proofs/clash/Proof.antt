@@ -1,3 +1,4 @@
+-- The answers to the five tests make up whether the two sections clash.
 use mathlib.Core.Path.{sym, _∙_, refl}
 use borrow.Author.Needs.{needs}
 use borrow.Author.Tests.{eq-eqb, ne-eqb, not-true, not-false}

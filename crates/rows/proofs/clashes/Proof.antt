@@ -1,3 +1,4 @@
+-- Invariant: none of the sections gone through clashes with section s.
 use mathlib.Core.Bool.{false}
 use mathlib.Core.List.{[]}
 use mathlib.Core.Path.{sym, _≡_, refl, _∙_}

@@ -1,3 +1,4 @@
+-- The three tests in turn, each of which is one of the definition.
 use borrow.Author.Needs.{needs}
 use borrow.Author.Tests.{le-leb, lt-leb, eq-eqb, ne-eqb}
 use Rattle.rows.specs.Stages.{inRows}

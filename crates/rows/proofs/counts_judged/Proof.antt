@@ -1,3 +1,4 @@
+-- Three counts in turn: the answers to the tests make up what 2, 3 and 4 find.
 use mathlib.Core.Path.{refl, sym, _∙_}
 use borrow.Author.Needs.{needs}
 use borrow.Author.Tests.{not-true, not-false}

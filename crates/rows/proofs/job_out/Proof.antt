@@ -1,3 +1,4 @@
+-- A test that fires rules the bounds out; the last one decides alone.
 use mathlib.Core.Path.{sym}
 use native.Mathlib.Omega.{arith}
 use borrow.Author.Needs.{needs}

@@ -1,3 +1,4 @@
+-- What 2 to 7 find is the answer, else what 8 finds.
 use mathlib.Core.Path.{refl, sym, _∙_, ap}
 use borrow.Author.Needs.{needs}
 use Rattle.rows.specs.Judged.{faultIn}

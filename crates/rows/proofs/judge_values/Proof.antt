@@ -1,3 +1,4 @@
+-- Counts, jobs, arcs, sections: the first find is the answer. Right counts bound the rows of each rule.
 use mathlib.Core.Path.{refl, sym, _∙_, ap}
 use borrow.Author.Needs.{needs}
 use Rattle.rows.specs.Judged.{faultIn}

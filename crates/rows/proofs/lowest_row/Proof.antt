@@ -1,3 +1,4 @@
+-- Invariant: no row gone through breaks the rule. So the first that does is the lowest.
 use mathlib.Core.Bool.{false}
 use mathlib.Core.Option.{some}
 use mathlib.Core.Path.{_≡_, sym, _∙_, ap}

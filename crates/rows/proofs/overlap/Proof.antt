@@ -1,3 +1,4 @@
+-- Both tests as the definition has them.
 use borrow.Author.Needs.{needs}
 use borrow.Author.Tests.{lt-ltb, le-ltb}
 use Rattle.rules.specs.Refusals.{overlap}

@@ -1,3 +1,4 @@
+-- Each rule has its own case of the refusals.
 use borrow.Author.Needs.{needs}
 use Rattle.rows.proofs.refusal_at.Statement.{statement}
 use Rattle.rows.proofs.refusal_at.Tie as tie

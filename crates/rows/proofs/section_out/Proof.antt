@@ -1,3 +1,4 @@
+-- A test that fires rules the bounds out; the last one, on the cost of the section's own job, decides alone.
 use mathlib.Core.Path.{sym}
 use native.Mathlib.Omega.{arith}
 use borrow.Author.Needs.{needs}

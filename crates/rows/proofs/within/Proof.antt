@@ -1,3 +1,4 @@
+-- Both tests as the definition has them.
 use borrow.Author.Needs.{needs}
 use borrow.Author.Tests.{le-leb, lt-leb}
 use Rattle.rules.specs.Refusals.{within}
