@@ -3,3 +3,5 @@ pub mod Tests
 pub mod Rows
 pub mod First
 pub mod Order
+pub mod Digits
+pub mod Text
