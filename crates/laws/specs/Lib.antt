@@ -3,5 +3,6 @@ pub mod Tests
 pub mod Rows
 pub mod First
 pub mod Order
+pub mod Refusals
 pub mod Digits
 pub mod Text
