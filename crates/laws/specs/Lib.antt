@@ -6,3 +6,4 @@ pub mod Order
 pub mod Refusals
 pub mod Digits
 pub mod Text
+pub mod Lines
