@@ -1,0 +1,17 @@
+use borrow.Author.Needs.{needs}
+use Rattle.text.proofs.keys.key_length.Statement.{statement}
+use Rattle.text.proofs.keys.key_length.Tie as tie
+use Rattle.text.proofs.keys.key_length.Reads as reads
+use Rattle.text.proofs.keys.key_length.Lts as lts
+
+mul-result : tie.Need-mul-result
+mul-result c = search needs
+
+array-read-result : tie.Need-array-read-result
+array-read-result c = search needs
+
+returns : tie.Need-returns
+returns c = ?
+
+pub key-length-spec : {M : Type 1} → statement M
+key-length-spec = tie.close (tie.spec mul-result array-read-result returns)
