@@ -1,4 +1,4 @@
 pub mod Matching
 pub mod Numbers
 pub mod Lists
-pub mod Parts
+pub mod Rows
