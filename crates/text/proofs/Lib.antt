@@ -2,3 +2,5 @@ pub mod Matching
 pub mod Numbers
 pub mod Lists
 pub mod Rows
+pub mod Table
+pub mod Stages

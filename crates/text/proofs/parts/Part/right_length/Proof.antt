@@ -3,6 +3,7 @@ use borrow.Author.Needs.{needs}
 use mathlib.Core.Path.{_∙_}
 use borrow.Author.Tests.{ne-eqb}
 use Rattle.text.proofs.Rows.{whole-rows}
+use Rattle.text.specs.Parts.{partOf}
 use Rattle.text.proofs.parts.Part.right_length.Statement.{statement}
 use Rattle.text.proofs.parts.Part.right_length.Tie as tie
 use Rattle.text.proofs.parts.Part.right_length.Reads as reads
@@ -23,7 +24,7 @@ right-requires : tie.Need-right-requires
 right-requires c κs = search needs
 
 returns : tie.Need-returns
-returns c = c .right .ensures ∙ whole-rows _ _ _ (c .before .before .width .ensures .0) (c .before .if1 .taken)
+returns c = c .right .ensures ∙ whole-rows (partOf (c .before .before .before .args .self)) (c .before .before .width .result) (c .before .before .before .args .length) (c .before .before .width .ensures .0) (c .before .if1 .taken)
 
 returns-2 : tie.Need-returns-2
 returns-2 c = rw (← c .before .width .ensures .0, ne-eqb _ _ (c .if1 .left))
