@@ -2,7 +2,8 @@
 use mathlib.Core.Path.{_≡_, refl, sym, _∙_, ap, ap₂}
 use mathlib.Core.Bool.{Bool, true, false, cond, _||_, and-eq-true-iff}
 use mathlib.Core.List.{List, [], _∷_, _++_, append-assoc, append-nil}
-use Prim.Native.Nat.{ℕ, zero, suc, _+_, _-_, _*_, _/_, _%_, _<_, _≤_}
+use Prim.Native.Nat.{ℕ, zero, suc, _+_, _-_, _*_, _/_, _%_, _^_, _<_, _≤_}
+use native.Mathlib.Nat.{pow-suc}
 use native.Mathlib.Omega.{arith}
 use borrow.Author.Tests.{eq-eqb, eqb-true, lt-ltb, le-ltb, le-leb, ne-eqb, leb-true, ltb-true, ltb-false, eqb-false}
 use lib.Dec.{leb, ltb, eqb}
@@ -85,6 +86,20 @@ by-tens-below (suc f) n h = go (ltb n 10) refl (by-tens-below f (n / 10))
 
 pub by-tens : (n : ℕ) → ByTens n
 by-tens n = by-tens-below (n + 1) n (omega arith)
+
+-- a number below 10 ^ k has at most k digits
+digits-below : (k n : ℕ) → n < 10 ^ suc k → length (digits n) ≤ suc k
+digits-below zero n h = rw (one-digit n h) (omega arith)
+digits-below (suc k) n h = go (ltb n 10) refl (digits-below k (n / 10))
+  where
+    go : (b : Bool) → ltb n 10 ≡ b → (n / 10 < 10 ^ suc k → length (digits (n / 10)) ≤ suc k) → length (digits n) ≤ suc (suc k)
+    go true e ih = rw (one-digit n (ltb-true n 10 e)) (omega arith)
+    go false e ih =
+        rw (last-digit n (ltb-false n 10 e), length-append)
+        (omega (arith, ih (omega (arith, rw (pow-suc 10 (suc k)) at h))))
+
+pub digits-most : (n : ℕ) → n ≤ mostNumber → length (digits n) ≤ 10
+digits-most n h = digits-below 9 n (omega arith)
 
 -- ---- what is written is read back
 

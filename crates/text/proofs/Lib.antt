@@ -4,3 +4,4 @@ pub mod Lists
 pub mod Rows
 pub mod Table
 pub mod Stages
+pub mod Putting
