@@ -220,9 +220,15 @@ after-key-back : (v : ℕ) (rest : List ℕ) → v ≤ mostNumber → afterKey (
 unfolding afterKey isDigit
 after-key-back v rest h = rw (number-back v (lf ∷ rest) h refl) (after-back (lf ∷ []) rest (value v))
 
-line-text : (k : List ℕ) (v : ℕ) (rest : List ℕ) → line k v ++ rest ≡ k ++ (digits v ++ (lf ∷ rest))
+pub line-bytes : (k : List ℕ) (v : ℕ) → line k v ≡ (k ++ digits v) ++ (lf ∷ [])
 unfolding line
-line-text k v rest = simp append-assoc
+line-bytes k v = sym (append-assoc k (digits v) (lf ∷ []))
+
+pub line-length : (k : List ℕ) (v : ℕ) → length (line k v) ≡ length k + length (digits v) + 1
+line-length k v = rw line-bytes (simp length-append)
+
+line-text : (k : List ℕ) (v : ℕ) (rest : List ℕ) → line k v ++ rest ≡ k ++ (digits v ++ (lf ∷ rest))
+line-text k v rest = rw line-bytes (simp append-assoc)
 
 pub line-back : (k : List ℕ) (v : ℕ) (rest : List ℕ) → v ≤ mostNumber → lineValue k (line k v ++ rest) ≡ value v rest
 unfolding lineValue afterKey

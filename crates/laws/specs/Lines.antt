@@ -38,7 +38,7 @@ use Rattle.rules.specs.Text.{
   read,
 }
 use Rattle.laws.specs.Tests.{clash}
-use Rattle.laws.specs.Digits.{LineFirst, line-back, line-is, ByTens, small, big, by-tens, one-digit, last-digit}
+use Rattle.laws.specs.Digits.{LineFirst, line-bytes, line-back, line-is, ByTens, small, big, by-tens, one-digit, last-digit}
 use Rattle.laws.specs.Refusals.{not-both}
 use Rattle.laws.specs.Text.{
   Words,
@@ -181,13 +181,9 @@ whole-ended w p =
       many = rw (plain-lines w [] p, lines-none);
     }
 
-line-ended : (k : List ℕ) (v : ℕ) → line k v ≡ (k ++ digits v) ++ (lf ∷ [])
-unfolding line
-line-ended k v = sym (append-assoc k (digits v) (lf ∷ []))
-
 pub whole-line : (k v : ℕ) → Whole 1 (line (key k) v)
 whole-line k v =
-    rw (line-ended (key k) v)
+    rw (line-bytes (key k) v)
     (whole-ended (key k ++ digits v) (plain-append (key k) (digits v) (key-plain k) (digits-plain (by-tens v))))
 
 pub whole-values : (b : Part) (i : ℕ) (vs : List ℕ) → Whole (length vs) (valueLines b i vs)

@@ -5,3 +5,4 @@ pub mod Rows
 pub mod Table
 pub mod Stages
 pub mod Putting
+pub mod Lining

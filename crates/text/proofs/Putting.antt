@@ -72,7 +72,7 @@ put-last o at vs v h =
 -- ---- pieces
 
 -- one piece after the other
-put-put : (o : List ℕ) (at : ℕ) (xs ys : List ℕ) → at + length xs ≤ length o
+pub put-put : (o : List ℕ) (at : ℕ) (xs ys : List ℕ) → at + length xs ≤ length o
     → put (put o at xs) (at + length xs) ys ≡ put o at (xs ++ ys)
 unfolding put
 put-put o at xs ys h =

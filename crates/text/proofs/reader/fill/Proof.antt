@@ -1,0 +1,39 @@
+use borrow.Author.Needs.{needs}
+use Rattle.text.proofs.reader.fill.Statement.{statement}
+use Rattle.text.proofs.reader.fill.Tie as tie
+use Rattle.text.proofs.reader.fill.Reads as reads
+use Rattle.text.proofs.reader.fill.Lts as lts
+use Rattle.text.proofs.reader.fill_part.Reads as fill-part-reads
+
+fill-part-requires : tie.Need-fill-part-requires
+fill-part-requires c κs = search needs
+
+fill-part-requires-2 : tie.Need-fill-part-requires-2
+fill-part-requires-2 c κs = search needs
+
+fill-part-requires-3 : tie.Need-fill-part-requires-3
+fill-part-requires-3 c κs = search needs
+
+same-length : tie.Need-same-length
+same-length c = search needs
+
+same-length-2 : tie.Need-same-length-2
+same-length-2 c = search needs
+
+same-length-3 : tie.Need-same-length-3
+same-length-3 c = search needs
+
+returns : tie.Need-returns
+returns c = search needs
+
+pub fill-spec : {M : Type 1} → statement M
+fill-spec =
+    tie.close
+    (tie.spec
+    fill-part-requires
+    fill-part-requires-2
+    fill-part-requires-3
+    same-length
+    same-length-2
+    same-length-3
+    returns)

@@ -1,0 +1,92 @@
+use borrow.Author.Needs.{needs}
+use Rattle.text.proofs.reader.fill_values.Statement.{statement}
+use Rattle.text.proofs.reader.fill_values.Tie as tie
+use Rattle.text.proofs.reader.fill_values.Reads as reads
+use Rattle.text.proofs.reader.fill_values.Lts as lts
+use Rattle.text.proofs.leaves.line_value.Reads as line-value-reads
+use Rattle.text.proofs.parts.Part.key_at.Reads as key-at-reads
+
+abbrev Inv-loop : tie.InvT-loop
+Inv-loop text part n from out₀ at₀ i₀ out at i = ?
+
+abbrev μ-loop : tie.MeasureT-loop
+μ-loop text part n from out₀ at₀ i₀ out at i = ?
+
+loop-holds : tie.Need-loop-holds Inv-loop μ-loop
+loop-holds c = search needs
+
+sub-line-value : tie.Need-sub-line-value Inv-loop μ-loop
+sub-line-value c = search needs
+
+part-line-value-start : tie.Need-part-line-value-start Inv-loop μ-loop
+part-line-value-start c = search needs
+
+part-line-value-end : tie.Need-part-line-value-end Inv-loop μ-loop
+part-line-value-end c = search needs
+
+key-at-requires : tie.Need-key-at-requires Inv-loop μ-loop
+key-at-requires c κs = search needs
+
+line-value-requires : tie.Need-line-value-requires Inv-loop μ-loop
+line-value-requires c κs = search needs
+
+enum-known-found : tie.Need-enum-known-found Inv-loop μ-loop
+enum-known-found c = search needs
+
+enum-told : tie.Need-enum-told Inv-loop μ-loop
+enum-told c = search needs
+
+same-length : tie.Need-same-length Inv-loop μ-loop
+same-length c = search needs
+
+returns : tie.Need-returns Inv-loop μ-loop
+returns c = search needs
+
+mul-out : tie.Need-mul-out Inv-loop μ-loop
+mul-out c = search needs
+
+slice-write-out : tie.Need-slice-write-out Inv-loop μ-loop
+slice-write-out c = search needs
+
+add-at : tie.Need-add-at Inv-loop μ-loop
+add-at c = search needs
+
+add-i : tie.Need-add-i Inv-loop μ-loop
+add-i c = search needs
+
+loop-less : tie.Need-loop-less Inv-loop μ-loop
+loop-less c = search needs
+
+loop-again : tie.Need-loop-again Inv-loop μ-loop
+loop-again c = search needs
+
+same-length-2 : tie.Need-same-length-2 Inv-loop μ-loop
+same-length-2 c = search needs
+
+returns-2 : tie.Need-returns-2 Inv-loop μ-loop
+returns-2 c = search needs
+
+pub fill-values-spec : {M : Type 1} → statement M
+fill-values-spec =
+    tie.close
+    (tie.spec
+    Inv-loop
+    μ-loop
+    loop-holds
+    sub-line-value
+    part-line-value-start
+    part-line-value-end
+    key-at-requires
+    line-value-requires
+    enum-known-found
+    enum-told
+    same-length
+    returns
+    mul-out
+    slice-write-out
+    add-at
+    add-i
+    loop-less
+    loop-again
+    same-length-2
+    returns-2)
