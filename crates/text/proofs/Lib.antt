@@ -6,3 +6,4 @@ pub mod Table
 pub mod Stages
 pub mod Putting
 pub mod Lining
+pub mod Answers

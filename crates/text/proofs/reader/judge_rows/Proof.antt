@@ -14,10 +14,10 @@ abbrev μ-loop : tie.MeasureT-loop
 μ-loop text part count from first n at₀ line₀ i₀ at line i = ?
 
 values-requires : tie.Need-values-requires Inv-loop μ-loop
-values-requires c κs = search needs
+values-requires c κs = ?
 
 loop-holds : tie.Need-loop-holds Inv-loop μ-loop
-loop-holds c = search needs
+loop-holds c = ?
 
 sub-line-value : tie.Need-sub-line-value Inv-loop μ-loop
 sub-line-value c = search needs
@@ -29,10 +29,10 @@ part-line-value-end : tie.Need-part-line-value-end Inv-loop μ-loop
 part-line-value-end c = search needs
 
 key-at-requires : tie.Need-key-at-requires Inv-loop μ-loop
-key-at-requires c κs = search needs
+key-at-requires c κs = ?
 
 line-value-requires : tie.Need-line-value-requires Inv-loop μ-loop
-line-value-requires c κs = search needs
+line-value-requires c κs = ?
 
 enum-known-found : tie.Need-enum-known-found Inv-loop μ-loop
 enum-known-found c = search needs
@@ -41,7 +41,7 @@ enum-told : tie.Need-enum-told Inv-loop μ-loop
 enum-told c = search needs
 
 returns : tie.Need-returns Inv-loop μ-loop
-returns c = search needs
+returns c = ?
 
 add-at : tie.Need-add-at Inv-loop μ-loop
 add-at c = search needs
@@ -56,10 +56,10 @@ loop-less : tie.Need-loop-less Inv-loop μ-loop
 loop-less c = search needs
 
 loop-again : tie.Need-loop-again Inv-loop μ-loop
-loop-again c = search needs
+loop-again c = ?
 
 returns-2 : tie.Need-returns-2 Inv-loop μ-loop
-returns-2 c = search needs
+returns-2 c = ?
 
 pub judge-rows-spec : {M : Type 1} → statement M
 judge-rows-spec =
