@@ -7,3 +7,4 @@ pub mod Stages
 pub mod Putting
 pub mod Lining
 pub mod Answers
+pub mod Walking

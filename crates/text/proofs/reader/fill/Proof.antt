@@ -6,13 +6,13 @@ use Rattle.text.proofs.reader.fill.Lts as lts
 use Rattle.text.proofs.reader.fill_part.Reads as fill-part-reads
 
 fill-part-requires : tie.Need-fill-part-requires
-fill-part-requires c κs = search needs
+fill-part-requires c κs = ?
 
 fill-part-requires-2 : tie.Need-fill-part-requires-2
-fill-part-requires-2 c κs = search needs
+fill-part-requires-2 c κs = ?
 
 fill-part-requires-3 : tie.Need-fill-part-requires-3
-fill-part-requires-3 c κs = search needs
+fill-part-requires-3 c κs = ?
 
 same-length : tie.Need-same-length
 same-length c = search needs
@@ -24,7 +24,7 @@ same-length-3 : tie.Need-same-length-3
 same-length-3 c = search needs
 
 returns : tie.Need-returns
-returns c = search needs
+returns c = ?
 
 pub fill-spec : {M : Type 1} → statement M
 fill-spec =

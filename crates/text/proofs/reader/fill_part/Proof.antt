@@ -1,4 +1,13 @@
+-- `text::reader::fill_part` meets its contract: what was judged has a count, and is filled by its rows.
 use borrow.Author.Needs.{needs}
+use native.Mathlib.Omega.{arith}
+use lib.ListN.{drop}
+use Rattle.rules.specs.Text.{key, lineValue}
+use Rattle.laws.specs.Refusals.{not-both}
+use Rattle.text.specs.declared.leaves.Found.the-variants.{Value}
+use Rattle.text.specs.Leaves.{Took}
+use Rattle.text.specs.Parts.{partOf}
+use Rattle.text.proofs.Walking.{line-at, part-stops, count-within, rows-ready, part-filled}
 use Rattle.text.proofs.reader.fill_part.Statement.{statement}
 use Rattle.text.proofs.reader.fill_part.Tie as tie
 use Rattle.text.proofs.reader.fill_part.Reads as reads
@@ -17,6 +26,12 @@ part-line-value-start c = search needs
 part-line-value-end : tie.Need-part-line-value-end
 part-line-value-end c = search needs
 
+-- the count that is found
+count : (c : tie.After-known-told)
+    → let a = c .before .before .before .before .before .before .before .before .args in
+    Took (lineValue (key (c .before .before .before .before .head .result)) (drop (a .from) (a .text .now))) (drop (a .from) (a .text .now)) (Value (c .before .found .given .0 .0) (c .before .found .given .0 .1 .0))
+count c = let a = c .before .before .before .before .before .before .before .before .args in line-at (a .text .now) (a .from) (c .before .before .before .before .head .result) (c .before .before .before .line-value .ensures) (c .before .found .given .1)
+
 head-requires : tie.Need-head-requires
 head-requires c κs = search needs
 
@@ -33,19 +48,19 @@ values-requires : tie.Need-values-requires
 values-requires c κs = search needs
 
 add-fill-values : tie.Need-add-fill-values
-add-fill-values c = search needs
+add-fill-values c = let a = c .before .before .before .before .before .before .before .before .before .args in omega (arith, count-within (partOf (a .part)) (c .before .before .before .before .before .head .ensures .0) (a .text .now) (a .from) 0 (count (c .before)) (omega arith))
 
 fill-values-requires : tie.Need-fill-values-requires
-fill-values-requires c κs = search needs
+fill-values-requires c κs = let s = c .before .before .before .before .before .before .before .before .before .before in let a = s .args in rows-ready (partOf (a .part)) (c .before .before .before .before .before .before .head .ensures .0) (a .text .now) (a .from) (a .out .now) (s .pre) (count (c .before .before)) (c .before .values .ensures)
 
 returns : tie.Need-returns
-returns c = search needs
+returns c = let s = c .before .before .before .before .before .before .before in let a = s .args in not-both (s .pre .given) (part-stops (partOf (a .part)) (c .before .before .before .head .ensures .0) (a .text .now) (a .from) 0 (line-at (a .text .now) (a .from) (c .before .before .before .head .result) (c .before .before .line-value .ensures) (c .enum-told .given .1)))
 
 same-length : tie.Need-same-length
 same-length c = search needs
 
 returns-2 : tie.Need-returns-2
-returns-2 c = search needs
+returns-2 c = let s = c .before .before .before .before .before .before .before .before .before .before .before .before .before in let a = s .args in part-filled (partOf (a .part)) (c .before .before .before .before .before .before .before .before .before .head .ensures .0) (a .text .now) (a .from) (a .out .now) (s .pre) (count (c .before .before .before .before .before)) (c .before .before .before .before .values .ensures) (c .before .before .fill-values .ensures)
 
 pub fill-part-spec : {M : Type 1} → statement M
 fill-part-spec =
