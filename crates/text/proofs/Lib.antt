@@ -8,3 +8,4 @@ pub mod Putting
 pub mod Lining
 pub mod Answers
 pub mod Walking
+pub mod Judging
