@@ -9,3 +9,4 @@ pub mod Lining
 pub mod Answers
 pub mod Walking
 pub mod Judging
+pub mod Filling

@@ -83,10 +83,10 @@ put-put o at xs ys h =
     let s : take at o ++ (xs ++ q) ≡ p ++ q = sym (append-assoc (take at o) xs q) in
     let a : take n (take at o ++ (xs ++ q)) ≡ p = ap (take n) s ∙ take-at p q n l in
     let b : drop (n + length ys) (take at o ++ (xs ++ q)) ≡ drop (n + length ys) o =
-        ap (drop (n + length ys)) s
-        ∙ ap (λ (k : ℕ). drop (k + length ys) (p ++ q)) (sym l)
-        ∙ drop-append-add p q (length ys)
-        ∙ drop-drop (length ys) n o in
+    ap (drop (n + length ys)) s
+    ∙ ap (λ (k : ℕ). drop (k + length ys) (p ++ q)) (sym l)
+    ∙ drop-append-add p q (length ys)
+    ∙ drop-drop (length ys) n o in
     rw (a, b) (simp (append-assoc, length-append, add-assoc))
 
 pub two : {o : List ℕ} {at : ℕ} {xs o₁ : List ℕ} {p : ℕ} {ys o₂ : List ℕ} {r : ℕ} → Over o at xs o₁ p → Over o₁ p ys o₂ r

@@ -1,10 +1,11 @@
 -- What `read` and `write` promise for every input: the answer, and what the lent lists hold afterwards.
 use mathlib.Core.Path.{_≡_}
 use mathlib.Core.List.{List, [], _∷_, _++_}
+use mathlib.Core.Option.{Option}
 use Prim.Native.Nat.{ℕ}
 use lib.ListN.{length, drop}
 use Rattle.rules.specs.Table.{Table, jobCount, arcCount, sectionCount}
-use Rattle.rules.specs.Refusals.{faultOf, Outcome, refused, gives, andThen, firstOf, unless, countFaults, room}
+use Rattle.rules.specs.Refusals.{Fault, faultOf, Outcome, refused, gives, andThen, firstOf, unless, countFaults, room}
 use Rattle.rules.specs.Text as rules
 use Rattle.rules.specs.Text.{textOf}
 use Rattle.text.specs.declared.Reading.{Reading}
@@ -19,17 +20,18 @@ afterwards (gives a) front old = front a ++ drop (length (front a)) old
 
 -- ---- read
 
--- The reader's refusals of the text, then 11.
-unfoldable pub readInto : List ℕ → List ℕ → List ℕ → List ℕ → Outcome Table
-readInto text jobs arcs sections =
-    andThen (rules.read text) (λ t.
-    unless
-    (firstOf
+-- Room for a table's three lists.
+abbrev pub roomFault : Table → List ℕ → List ℕ → List ℕ → Option Fault
+roomFault t jobs arcs sections =
+    firstOf
     (room (length (t .jobs)) (length jobs)
     ∷ room (length (t .arcs)) (length arcs)
     ∷ room (length (t .sections)) (length sections)
-    ∷ []))
-    t)
+    ∷ [])
+
+-- What the text is refused for; "11 comes last".
+unfoldable pub readInto : List ℕ → List ℕ → List ℕ → List ℕ → Outcome Table
+readInto text jobs arcs sections = andThen (rules.read text) (λ t. unless (roomFault t jobs arcs sections) t)
 
 -- how many jobs, arcs and sections
 pub record Rows : Type 0 where

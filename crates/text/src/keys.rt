@@ -5,14 +5,16 @@ ghost use lib.ListN.{length};
 ghost use Rattle.rules.specs.Text.{key};
 ghost use Rattle.text.specs.Leaves.{Matched};
 ghost use Rattle.text.specs.Put.{Over};
-
 use crate::leaves;
 use crate::leaves::Match;
 use crate::writer;
 
 // The keys one after the other, and by its place in the text where each starts and how many bytes it has.
-const KEYS: [u8; 75] = *b"jobs=release=cost=deadline=arcs=before=after=sections=job=resource=from=to=";
+const KEYS: [u8; 75] =
+    *b"jobs=release=cost=deadline=arcs=before=after=sections=job=resource=from=to=";
+
 const STARTS: [usize; 12] = [0, 5, 13, 18, 27, 32, 39, 45, 54, 58, 67, 72];
+
 const LENGTHS: [usize; 12] = [5, 8, 5, 9, 5, 7, 6, 9, 4, 9, 5, 3];
 
 // How many bytes key k has.

@@ -4,7 +4,6 @@ ghost use Prim.Native.Nat.{_+_, _<_, _≤_, _^_};
 ghost use lib.ListN.{length, drop};
 ghost use Rattle.rules.specs.Text.{key, isDigit, number, lineValue};
 ghost use Rattle.text.specs.Leaves.{Matched, Took, LineEnds};
-
 use crate::keys;
 
 // How far bytes match: all of them, so many, or only so many.
@@ -64,7 +63,10 @@ fn read_number(digits: &[u8]) -> Found
     while i < digits.len() {
         let digit = digits[i];
         if !is_digit(digit) {
-            return Found::Value { value: value as u32, end: i };
+            return Found::Value {
+                value: value as u32,
+                end: i,
+            };
         }
         if value == 0 {
             return Found::Stopped(i);
@@ -76,7 +78,10 @@ fn read_number(digits: &[u8]) -> Found
         value = longer;
         i += 1;
     }
-    Found::Value { value: value as u32, end: i }
+    Found::Value {
+        value: value as u32,
+        end: i,
+    }
 }
 
 // The part of the caller's own text after the equals sign of a line whose key takes its first n bytes.

@@ -1,6 +1,5 @@
 // A table's text: read into three lent lists, and written into lent bytes.
 ghost use Rattle.text.specs.Promises.{Reads, Writes};
-
 use parts::Part;
 use rules::Refusal;
 
@@ -29,7 +28,11 @@ pub fn read(text: &[u8], jobs: &mut [u32], arcs: &mut [u32], sections: &mut [u32
     let judged = reader::judge(text);
     match judged {
         Reading::Refused(_) => {}
-        Reading::Counts { jobs: j, arcs: a, sections: s } => {
+        Reading::Counts {
+            jobs: j,
+            arcs: a,
+            sections: s,
+        } => {
             if !Part::Jobs.has_room(j, jobs.len()) {
                 return Reading::Refused(Refusal::Room);
             }

@@ -5,7 +5,6 @@ ghost use lib.Dec.{leb};
 ghost use Rattle.rules.specs.Refusals.{fault, faultOf};
 ghost use Rattle.laws.specs.Text.{lengthRight};
 ghost use Rattle.text.specs.Parts.{partOf};
-
 use rules::Refusal;
 
 pub enum Part {

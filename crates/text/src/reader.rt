@@ -6,11 +6,10 @@ ghost use Rattle.rules.specs.Text.{readValues, readPart, read};
 ghost use Rattle.text.specs.Parts.{partOf};
 ghost use Rattle.text.specs.Passes.{Judges, Ready, Filled, TableReady, TableFilled};
 ghost use Rattle.text.specs.Promises.{readingSays, counted};
-
+use crate::Reading;
 use crate::leaves;
 use crate::leaves::Found;
 use crate::parts::Part;
-use crate::Reading;
 use rules::Refusal;
 
 // What judging a part comes to: how many rows it has, the place after it and the number of the line there; or a refusal.
@@ -64,19 +63,35 @@ pub fn judge(text: &[u8]) -> Reading
     let first = judge_part(text, Part::Jobs, 0, 1);
     match first {
         Judged::Refused(r) => Reading::Refused(r),
-        Judged::Rows { count: jobs, at, line } => {
+        Judged::Rows {
+            count: jobs,
+            at,
+            line,
+        } => {
             let second = judge_part(text, Part::Arcs, at, line);
             match second {
                 Judged::Refused(r) => Reading::Refused(r),
-                Judged::Rows { count: arcs, at, line } => {
+                Judged::Rows {
+                    count: arcs,
+                    at,
+                    line,
+                } => {
                     let third = judge_part(text, Part::Sections, at, line);
                     match third {
                         Judged::Refused(r) => Reading::Refused(r),
-                        Judged::Rows { count: sections, at, line } => {
+                        Judged::Rows {
+                            count: sections,
+                            at,
+                            line,
+                        } => {
                             if at < text.len() {
                                 return Reading::Refused(Refusal::Text(line));
                             }
-                            Reading::Counts { jobs, arcs, sections }
+                            Reading::Counts {
+                                jobs,
+                                arcs,
+                                sections,
+                            }
                         }
                     }
                 }

@@ -7,7 +7,6 @@ ghost use Rattle.laws.specs.Text.{Counted};
 ghost use Rattle.text.specs.Parts.{partOf};
 ghost use Rattle.text.specs.Put.{Over};
 ghost use Rattle.text.specs.Passes.{TableCounted, textFrom};
-
 use crate::keys;
 use crate::parts::Part;
 
@@ -69,7 +68,9 @@ pub fn text_length(jobs: &[u32], arcs: &[u32], sections: &[u32]) -> usize
     requires { ⌜ TableCounted (now jobs) (now arcs) (now sections) ⌝ }
     ensures { λ r. ⌜ r ≡ length (textFrom (now (jobs .entry)) (now (arcs .entry)) (now (sections .entry))) ⌝ }
 {
-    part_length(Part::Jobs, jobs) + part_length(Part::Arcs, arcs) + part_length(Part::Sections, sections)
+    part_length(Part::Jobs, jobs)
+        + part_length(Part::Arcs, arcs)
+        + part_length(Part::Sections, sections)
 }
 
 // ---- bytes; each function answers the place after what it has written

@@ -1,4 +1,6 @@
+-- `text::reader::fill` meets its contract, part by part.
 use borrow.Author.Needs.{needs}
+use Rattle.text.proofs.Filling.{jobs-ready, arcs-ready, sections-ready, table-filled}
 use Rattle.text.proofs.reader.fill.Statement.{statement}
 use Rattle.text.proofs.reader.fill.Tie as tie
 use Rattle.text.proofs.reader.fill.Reads as reads
@@ -6,13 +8,13 @@ use Rattle.text.proofs.reader.fill.Lts as lts
 use Rattle.text.proofs.reader.fill_part.Reads as fill-part-reads
 
 fill-part-requires : tie.Need-fill-part-requires
-fill-part-requires c κs = ?
+fill-part-requires c κs = jobs-ready (c .before .before .before .before .before .pre)
 
 fill-part-requires-2 : tie.Need-fill-part-requires-2
-fill-part-requires-2 c κs = ?
+fill-part-requires-2 c κs = arcs-ready (c .before .before .before .before .before .before .before .before .before .pre) (c .before .before .before .fill-part .ensures)
 
 fill-part-requires-3 : tie.Need-fill-part-requires-3
-fill-part-requires-3 c κs = ?
+fill-part-requires-3 c κs = sections-ready (c .before .before .before .before .before .before .before .before .before .before .before .before .before .pre) (c .before .before .before .before .before .before .before .fill-part .ensures) (c .before .before .before .fill-part2 .ensures)
 
 same-length : tie.Need-same-length
 same-length c = search needs
@@ -24,7 +26,7 @@ same-length-3 : tie.Need-same-length-3
 same-length-3 c = search needs
 
 returns : tie.Need-returns
-returns c = ?
+returns c = table-filled (c .before .before .before .before .before .before .before .before .before .before .before .before .before .before .before .before .pre) (c .before .before .before .before .before .before .before .before .before .before .fill-part .ensures) (c .before .before .before .before .before .before .fill-part2 .ensures) (c .before .before .fill-part3 .ensures)
 
 pub fill-spec : {M : Type 1} → statement M
 fill-spec =
