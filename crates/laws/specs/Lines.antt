@@ -584,6 +584,10 @@ refused-at text f q = stop-wrong (read-stop text f q)
 pub right-none : (text : List ℕ) (n : ℕ) → RightText text → FirstWrong text n → ⊥
 right-none text n r w = w .none text r (record { same = refl })
 
+-- lines are counted from 1
+pub from-one : {text : List ℕ} → FirstWrong text 0 → ⊥
+from-one {text} w = w .none (w .before .0) (w .before .1) (same-none text (w .before .0))
+
 -- no text has two
 not-later : {text : List ℕ} {m n : ℕ} → FirstWrong text m → FirstWrong text n → m < n → ⊥
 not-later v w h = v .none (w .before .0) (w .before .1) (same-fewer (omega arith) (w .before .2))

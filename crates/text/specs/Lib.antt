@@ -4,3 +4,4 @@ pub mod Put
 pub mod Leaves
 pub mod Promises
 pub mod Passes
+pub mod Theorems
