@@ -11,3 +11,6 @@ pub mod Accepted
 pub mod Keys
 pub mod Nesting
 pub mod Answers
+pub mod Digits
+pub mod Text
+pub mod Lines

@@ -1,0 +1,162 @@
+-- The laws of `put`: stores in order, from the last to the first, and piece by piece.
+use mathlib.Core.Path.{_≡_, refl, sym, _∙_, ap}
+use mathlib.Core.List.{List, [], _∷_, _++_, append-assoc}
+use Prim.Native.Nat.{ℕ, suc, _+_, _-_, _/_, _%_, _<_, _≤_}
+use native.Mathlib.Nat.{zero-add, add-zero, add-assoc}
+use native.Mathlib.Numerals.{add-one}
+use native.Mathlib.Omega.{arith}
+use lib.ListN.{
+  length,
+  getD,
+  take,
+  drop,
+  set,
+  take-append-drop,
+  length-append,
+  length-take,
+  length-drop,
+  length-set,
+  drop-of-length-le,
+}
+use lib.Seq.{
+  drop-cons,
+  take-set-le,
+  drop-set-lt,
+  getD-set-same,
+  set-split,
+  take-suc-set,
+  take-at,
+  drop-append-add,
+  length-take-le,
+  drop-drop,
+}
+use Rattle.rules.specs.Text.{digits}
+use Rattle.laws.specs.Digits.{one-digit, last-digit}
+use Rattle.text.specs.Put.{put, Over}
+
+-- ---- stores
+
+pub put-none : (o : List ℕ) (at : ℕ) → put o at [] ≡ o
+unfolding put
+put-none o at = simp (add-zero, take-append-drop)
+
+-- at the front
+pub put-front : (o vs : List ℕ) → put o 0 vs ≡ vs ++ drop (length vs) o
+unfolding put
+put-front o vs = rw zero-add
+
+-- the first of what is put may be stored first
+pub put-first : (o : List ℕ) (at v : ℕ) (vs : List ℕ) → at < length o → put (set o at v) (at + 1) vs ≡ put o at (v ∷ vs)
+unfolding put
+put-first o at v vs h =
+    let s : suc at + length vs ≡ at + suc (length vs) = omega arith in
+    simp (add-one, take-suc-set o at v h, drop-set-lt (at + suc (length vs)) o at v (omega arith), append-assoc, s)
+
+-- and so may the last
+put-last : (o : List ℕ) (at : ℕ) (vs : List ℕ) (v : ℕ) → at + length vs < length o
+    → put (set o (at + length vs) v) at vs ≡ put o at (vs ++ (v ∷ []))
+unfolding put
+put-last o at vs v h =
+    let l : at + length vs < length (set o (at + length vs) v) = rw length-set h in
+    let s : at + (length vs + 1) ≡ suc (at + length vs) = omega arith in
+    simp (
+      take-set-le at o (at + length vs) v (omega arith),
+      drop-cons (set o (at + length vs) v) (at + length vs) 0 l,
+      getD-set-same o (at + length vs) v 0 h,
+      drop-set-lt (suc (at + length vs)) o (at + length vs) v (omega arith),
+      append-assoc,
+      length-append,
+      s,
+    )
+
+-- ---- pieces
+
+-- one piece after the other
+pub put-put : (o : List ℕ) (at : ℕ) (xs ys : List ℕ) → at + length xs ≤ length o
+    → put (put o at xs) (at + length xs) ys ≡ put o at (xs ++ ys)
+unfolding put
+put-put o at xs ys h =
+    let n : ℕ = at + length xs in
+    let p : List ℕ = take at o ++ xs in
+    let q : List ℕ = drop n o in
+    let l : length p ≡ n = length-append (take at o) xs ∙ ap (λ (k : ℕ). k + length xs) (length-take-le at o (omega arith)) in
+    let s : take at o ++ (xs ++ q) ≡ p ++ q = sym (append-assoc (take at o) xs q) in
+    let a : take n (take at o ++ (xs ++ q)) ≡ p = ap (take n) s ∙ take-at p q n l in
+    let b : drop (n + length ys) (take at o ++ (xs ++ q)) ≡ drop (n + length ys) o =
+    ap (drop (n + length ys)) s
+    ∙ ap (λ (k : ℕ). drop (k + length ys) (p ++ q)) (sym l)
+    ∙ drop-append-add p q (length ys)
+    ∙ drop-drop (length ys) n o in
+    rw (a, b) (simp (append-assoc, length-append, add-assoc))
+
+pub two : {o : List ℕ} {at : ℕ} {xs o₁ : List ℕ} {p : ℕ} {ys o₂ : List ℕ} {r : ℕ} → Over o at xs o₁ p → Over o₁ p ys o₂ r
+    → at + length xs ≤ length o → Over o at (xs ++ ys) o₂ r
+two {o} {at} {xs} {o₁} {p} {ys} a b h =
+    record {
+      end = rw length-append (omega (arith, a .end, b .end));
+      list = b .list ∙ rw (a .end, a .list) (put-put o at xs ys h);
+    }
+
+-- one byte
+pub one : (o : List ℕ) (at v : ℕ) → at < length o → Over o at (v ∷ []) (set o at v) (at + 1)
+one o at v h = record { end = refl; list = sym (put-none (set o at v) (at + 1)) ∙ put-first o at v [] h }
+
+-- ---- copying: o₀ at the start and o after i bytes of s; what is left to copy makes the whole
+
+pub record Copying (o₀ : List ℕ) (at : ℕ) (s o : List ℕ) (i : ℕ) : Type 0 where
+  pub within : i ≤ length s
+  pub same : length o ≡ length o₀
+  pub room : at + length s ≤ length o₀
+  pub left : put o (at + i) (drop i s) ≡ put o₀ at s
+
+pub begin : (o : List ℕ) (at : ℕ) (s : List ℕ) → at + length s ≤ length o → Copying o at s o 0
+begin o at s h = record { within = omega arith; same = refl; room = h; left = simp add-zero }
+
+module _ {o₀ : List ℕ} {at : ℕ} {s o : List ℕ} {i : ℕ} (g : Copying o₀ at s o i) where
+  pub copy : i < length s → Copying o₀ at s (set o (at + i) (getD s i 0)) (i + 1)
+  copy h =
+      let e : at + (i + 1) ≡ at + i + 1 = omega arith in
+      record {
+        within = omega arith;
+        same = rw length-set (g .same);
+        room = g .room;
+        left = rw e
+            (put-first o (at + i) (getD s i 0) (drop (i + 1) s) (omega (arith, g .room, g .same))
+            ∙ rw add-one (rw (drop-cons s i 0 h) at (g .left)));
+      }
+
+  pub copied : length s ≤ i → Over o₀ at s o (at + i)
+  copied h =
+      record {
+        end = omega (arith, g .within);
+        list = sym (put-none o (at + i)) ∙ rw (drop-of-length-le s h) at (g .left);
+      }
+
+-- ---- digits, from the last to the first: what is left to write, put into o, makes the whole; p is the place after it
+
+pub record Numbering (o₀ : List ℕ) (at n : ℕ) (o : List ℕ) (m p : ℕ) : Type 0 where
+  pub same : length o ≡ length o₀
+  pub place : p ≡ at + length (digits m)
+  pub within : p ≤ length o
+  pub left : put o at (digits m) ≡ put o₀ at (digits n)
+
+pub digits-more : (m : ℕ) → 10 ≤ m → length (digits m) ≡ length (digits (m / 10)) + 1
+digits-more m h = rw (last-digit m h, length-append)
+
+module _ {o₀ : List ℕ} {at n : ℕ} {o : List ℕ} {m p : ℕ} (w : Numbering o₀ at n o m p) where
+  pub writes : 10 ≤ m → Numbering o₀ at n (set o (p - 1) (48 + m % 10)) (m / 10) (p - 1)
+  writes h =
+      let k : length (digits m) ≡ length (digits (m / 10)) + 1 = digits-more m h in
+      let q : p - 1 ≡ at + length (digits (m / 10)) = omega arith in
+      record {
+        same = rw length-set (w .same);
+        place = q;
+        within = rw length-set (omega arith);
+        left = rw q (put-last o at (digits (m / 10)) (48 + m % 10) (omega arith) ∙ rw (last-digit m h) at (w .left));
+      }
+
+  pub written : m < 10 → set o at (48 + m) ≡ put o₀ at (digits n)
+  unfolding put
+  written h =
+      let l : length (digits m) ≡ 1 = ap length (one-digit m h) in
+      set-split o at (48 + m) (omega arith) ∙ simp (← add-one) (rw (one-digit m h) at (w .left))

@@ -1,0 +1,55 @@
+-- `text::keys::match_key` meets its contract: the part of the table that it lends is the key.
+use borrow.Author.Needs.{needs}
+use native.Mathlib.Omega.{arith}
+use Rattle.text.proofs.Table.{key-at}
+use Rattle.text.proofs.Table.{key-at, lent-key}
+use Rattle.text.proofs.keys.match_key.Statement.{statement}
+use Rattle.text.proofs.keys.match_key.Tie as tie
+use Rattle.text.proofs.keys.match_key.Reads as reads
+use Rattle.text.proofs.keys.match_key.Lts as lts
+use Rattle.text.proofs.leaves.match_bytes.Reads as match-bytes-reads
+
+mul-start : tie.Need-mul-start
+mul-start c = search needs
+
+array-read-start : tie.Need-array-read-start
+array-read-start c = search needs
+
+mul-end : tie.Need-mul-end
+mul-end c = search needs
+
+array-read-end : tie.Need-array-read-end
+array-read-end c = search needs
+
+add-end : tie.Need-add-end
+add-end c = omega (arith, key-at (c .before .args .k) (c .before .pre) .within)
+
+sub-match-bytes : tie.Need-sub-match-bytes
+sub-match-bytes c = search needs
+
+part-match-bytes-start : tie.Need-part-match-bytes-start
+part-match-bytes-start c = search needs
+
+part-match-bytes-end : tie.Need-part-match-bytes-end
+part-match-bytes-end c = omega (arith, key-at (c .before .before .args .k) (c .before .before .pre) .within)
+
+match-bytes-requires : tie.Need-match-bytes-requires
+match-bytes-requires c κs = search needs
+
+returns : tie.Need-returns
+returns c = let s = c .before .before .before .before in rw (lent-key (s .args .k) (s .pre)) at (c .match-bytes .ensures)
+
+pub match-key-spec : {M : Type 1} → statement M
+match-key-spec =
+    tie.close
+    (tie.spec
+    mul-start
+    array-read-start
+    mul-end
+    array-read-end
+    add-end
+    sub-match-bytes
+    part-match-bytes-start
+    part-match-bytes-end
+    match-bytes-requires
+    returns)

@@ -1,0 +1,16 @@
+-- `text::parts::Part::has_room` meets its contract.
+use borrow.Author.Needs.{needs}
+use Rattle.text.proofs.parts.Part.has_room.Statement.{statement}
+use Rattle.text.proofs.parts.Part.has_room.Tie as tie
+use Rattle.text.proofs.parts.Part.has_room.Reads as reads
+use Rattle.text.proofs.parts.Part.has_room.Lts as lts
+use Rattle.text.proofs.parts.Part.values.Reads as values-reads
+
+values-requires : tie.Need-values-requires
+values-requires c κs = search needs
+
+returns : tie.Need-returns
+returns c = rw (c .values .ensures)
+
+pub has-room-spec : {M : Type 1} → statement M
+has-room-spec = tie.close (tie.spec values-requires returns)

@@ -1,0 +1,108 @@
+-- `text::reader::judge_rows` meets its contract: the values that are done, and what is left to read, make the whole.
+use borrow.Author.Needs.{needs}
+use mathlib.Core.Path.{_≡_, refl, sym, _∙_, ap}
+use Prim.Native.Nat.{_+_, _*_, _-_, _≤_}
+use native.Mathlib.Omega.{arith}
+use Rattle.text.specs.Parts.{partOf}
+use Rattle.text.proofs.Walking.{line-at, Walking, begun, stopped, walked, ended}
+use mathlib.Core.List.{List}
+use Prim.Native.Nat.{ℕ}
+use lib.ListN.{drop, length-drop}
+use Rattle.rules.specs.Text.{key, lineValue}
+use Rattle.text.specs.declared.leaves.Found.the-variants.{Value}
+use Rattle.text.specs.Leaves.{Took}
+use Rattle.text.proofs.reader.judge_rows.Statement.{statement}
+use Rattle.text.proofs.reader.judge_rows.Tie as tie
+use Rattle.text.proofs.reader.judge_rows.Reads as reads
+use Rattle.text.proofs.reader.judge_rows.Lts as lts
+use Rattle.text.proofs.leaves.line_value.Reads as line-value-reads
+use Rattle.text.proofs.parts.Part.key_at.Reads as key-at-reads
+use Rattle.text.proofs.parts.Part.values.Reads as values-reads
+
+abbrev Inv-loop : tie.InvT-loop
+Inv-loop text part count from first n at₀ line₀ i₀ at line i = (n ≡ count * partOf part .width) × (n ≤ 1024) × (first ≤ 4096) × (line ≡ first + i) × Walking (partOf part) n text from first i at
+
+abbrev μ-loop : tie.MeasureT-loop
+μ-loop text part count from first n at₀ line₀ i₀ at line i = n - i
+
+-- the value that is found at the cursor
+abbrev text : tie.After-known-told Inv-loop μ-loop → List ℕ
+text c = c .before .before .before .before .before .before .before .before .before .before .args .text .now
+
+abbrev place : tie.After-known-told Inv-loop μ-loop → ℕ
+place c = c .before .before .before .before .before .before .before .loop .at
+
+found-value : (c : tie.After-known-told Inv-loop μ-loop)
+    → Took (lineValue (key (c .before .before .before .before .key-at .result)) (drop (place c) (text c))) (drop (place c) (text c)) (Value (c .before .found .given .0 .0) (c .before .found .given .0 .1 .0))
+found-value c = line-at (text c) (place c) (c .before .before .before .before .key-at .result) (c .before .before .before .line-value .ensures) (c .before .found .given .1)
+
+values-requires : tie.Need-values-requires Inv-loop μ-loop
+values-requires c κs = search needs
+
+loop-holds : tie.Need-loop-holds Inv-loop μ-loop
+loop-holds c = (c .values .ensures, omega arith, omega arith, omega arith, begun _ _ _ _ _ (omega arith))
+
+sub-line-value : tie.Need-sub-line-value Inv-loop μ-loop
+sub-line-value c = search needs
+
+part-line-value-start : tie.Need-part-line-value-start Inv-loop μ-loop
+part-line-value-start c = search needs
+
+part-line-value-end : tie.Need-part-line-value-end Inv-loop μ-loop
+part-line-value-end c = search needs
+
+key-at-requires : tie.Need-key-at-requires Inv-loop μ-loop
+key-at-requires c κs = search needs
+
+line-value-requires : tie.Need-line-value-requires Inv-loop μ-loop
+line-value-requires c κs = search needs
+
+enum-known-found : tie.Need-enum-known-found Inv-loop μ-loop
+enum-known-found c = search needs
+
+enum-told : tie.Need-enum-told Inv-loop μ-loop
+enum-told c = search needs
+
+returns : tie.Need-returns Inv-loop μ-loop
+returns c = let inv = c .before .before .before .before .before .before .loop .inv in rw (← inv .0, inv .3) (stopped (inv .4) (omega arith) (c .before .before .before .key-at .ensures .0) (line-at (c .before .before .before .before .before .before .before .before .before .args .text .now) (c .before .before .before .before .before .before .loop .at) (c .before .before .before .key-at .result) (c .before .before .line-value .ensures) (c .enum-told .given .1)))
+
+add-at : tie.Need-add-at Inv-loop μ-loop
+add-at c = omega (arith, length-drop (place c) (text c), found-value c .within)
+
+add-line : tie.Need-add-line Inv-loop μ-loop
+add-line c = search needs
+
+add-i : tie.Need-add-i Inv-loop μ-loop
+add-i c = search needs
+
+loop-less : tie.Need-loop-less Inv-loop μ-loop
+loop-less c = search needs
+
+loop-again : tie.Need-loop-again Inv-loop μ-loop
+loop-again c = let inv = c .before .before .before .before .before .before .before .loop .inv in (inv .0, inv .1, inv .2, omega arith, walked (inv .4) (omega arith) (c .before .before .before .before .key-at .ensures .0) (found-value c))
+
+returns-2 : tie.Need-returns-2 Inv-loop μ-loop
+returns-2 c = let inv = c .before .loop .inv in record { values = inv .4 .done; given = rw (← inv .0, inv .3) (ended (inv .4) (omega arith)); many = omega (arith, inv .4 .many, inv .4 .few, inv .0); within = inv .4 .within }
+
+pub judge-rows-spec : {M : Type 1} → statement M
+judge-rows-spec =
+    tie.close
+    (tie.spec
+    Inv-loop
+    μ-loop
+    values-requires
+    loop-holds
+    sub-line-value
+    part-line-value-start
+    part-line-value-end
+    key-at-requires
+    line-value-requires
+    enum-known-found
+    enum-told
+    returns
+    add-at
+    add-line
+    add-i
+    loop-less
+    loop-again
+    returns-2)

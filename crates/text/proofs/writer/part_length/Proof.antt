@@ -1,0 +1,42 @@
+-- `text::writer::part_length` meets its contract: a part is its count's line and its values' lines.
+use borrow.Author.Needs.{needs}
+use native.Mathlib.Omega.{arith}
+use Rattle.text.specs.Parts.{partOf}
+use Rattle.text.proofs.Rows.{few-values, part-length}
+use Rattle.text.proofs.writer.part_length.Statement.{statement}
+use Rattle.text.proofs.writer.part_length.Tie as tie
+use Rattle.text.proofs.writer.part_length.Reads as reads
+use Rattle.text.proofs.writer.part_length.Lts as lts
+use Rattle.text.proofs.parts.Part.head.Reads as head-reads
+use Rattle.text.proofs.writer.line_length.Reads as line-length-reads
+use Rattle.text.proofs.writer.rows.Reads as rows-reads
+use Rattle.text.proofs.writer.values_length.Reads as values-length-reads
+
+head-requires : tie.Need-head-requires
+head-requires c κs = search needs
+
+rows-requires : tie.Need-rows-requires
+rows-requires c κs = search needs
+
+line-length-requires : tie.Need-line-length-requires
+line-length-requires c κs = search needs
+
+values-length-requires : tie.Need-values-length-requires
+values-length-requires c κs = let a = c .before .before .before .before in few-values (a .args .part) (a .args .values .now) (a .pre)
+
+add-result : tie.Need-add-result
+add-result c = search needs
+
+returns : tie.Need-returns
+returns c = let a = c .before .before .before .before .before .args in (part-length (partOf (a .part)) (a .values .now) (c .before .before .before .head .ensures .0) (c .before .before .rows .ensures) (c .before .line-length .ensures .0) (c .values-length .ensures .0), omega arith)
+
+pub part-length-spec : {M : Type 1} → statement M
+part-length-spec =
+    tie.close
+    (tie.spec
+    head-requires
+    rows-requires
+    line-length-requires
+    values-length-requires
+    add-result
+    returns)

@@ -1,0 +1,43 @@
+-- `text::writer::put_line` meets its contract: three pieces, one after the other.
+use borrow.Author.Needs.{needs}
+use native.Mathlib.Omega.{arith}
+use lib.ListN.{length, length-append, length-set}
+use Prim.Native.Nat.{_<_}
+use Rattle.rules.specs.Text.{key}
+use Rattle.laws.specs.Digits.{line-bytes, line-length}
+use Rattle.text.proofs.Putting.{two, one}
+use Rattle.text.proofs.writer.put_line.Statement.{statement}
+use Rattle.text.proofs.writer.put_line.Tie as tie
+use Rattle.text.proofs.writer.put_line.Reads as reads
+use Rattle.text.proofs.writer.put_line.Lts as lts
+use Rattle.text.proofs.keys.put_key.Reads as put-key-reads
+use Rattle.text.proofs.writer.put_number.Reads as put-number-reads
+
+-- there is a place for the LF
+ended : (c : tie.After-slice-known3) → c .before .before .put-number .result < length (c .before .before .put-number .last .0)
+ended c =
+    let a = c .before .before .before .before .before .before .before .before .before .args in
+    omega (arith, line-length (key (a .k)) (a .value))
+
+put-key-requires : tie.Need-put-key-requires
+put-key-requires c κs = let a = c .before .before .args in (omega arith, omega (arith, line-length (key (a .k)) (a .value)))
+
+put-number-requires : tie.Need-put-number-requires
+put-number-requires c κs = let a = c .before .before .before .before .before .before .args in omega (arith, line-length (key (a .k)) (a .value))
+
+slice-write-out : tie.Need-slice-write-out
+slice-write-out c = ended c
+
+add-result : tie.Need-add-result
+add-result c = omega (arith, ended c)
+
+same-length : tie.Need-same-length
+same-length c = simp length-set (omega arith)
+
+returns : tie.Need-returns
+returns c = let s = c .before .before .before .before .before .before .before .before .before in let l = line-length (key (s .args .k)) (s .args .value) in rw (line-bytes (key (s .args .k)) (s .args .value)) (two (two (c .before .before .before .before .before .before .put-key .ensures) (c .before .before .put-number .ensures) (omega arith)) (one _ _ _ (ended c)) (rw length-append (omega arith)))
+
+pub put-line-spec : {M : Type 1} → statement M
+put-line-spec =
+    tie.close
+    (tie.spec put-key-requires put-number-requires slice-write-out add-result same-length returns)

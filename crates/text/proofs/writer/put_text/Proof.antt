@@ -1,0 +1,29 @@
+-- `text::writer::put_text` meets its contract: the three parts, one after the other.
+use borrow.Author.Needs.{needs}
+use native.Mathlib.Omega.{arith}
+use Rattle.text.proofs.Rows.{text-length, text-put}
+use Rattle.text.proofs.writer.put_text.Statement.{statement}
+use Rattle.text.proofs.writer.put_text.Tie as tie
+use Rattle.text.proofs.writer.put_text.Reads as reads
+use Rattle.text.proofs.writer.put_text.Lts as lts
+use Rattle.text.proofs.writer.put_part.Reads as put-part-reads
+
+put-part-requires : tie.Need-put-part-requires
+put-part-requires c κs = let s = c .before .before .before .before .before in let a = s .args in (s .pre .0 .jobs-counted, omega (arith, text-length (a .jobs .now) (a .arcs .now) (a .sections .now)))
+
+put-part-requires-2 : tie.Need-put-part-requires-2
+put-part-requires-2 c κs = let s = c .before .before .before .before .before .before .before .before .before in let a = s .args in (s .pre .0 .arcs-counted, omega (arith, text-length (a .jobs .now) (a .arcs .now) (a .sections .now)))
+
+put-part-requires-3 : tie.Need-put-part-requires-3
+put-part-requires-3 c κs = let s = c .before .before .before .before .before .before .before .before .before .before .before .before .before in let a = s .args in (s .pre .0 .sections-counted, omega (arith, text-length (a .jobs .now) (a .arcs .now) (a .sections .now)))
+
+same-length : tie.Need-same-length
+same-length c = search needs
+
+returns : tie.Need-returns
+returns c = let s = c .before .before .before .before .before .before .before .before .before .before .before .before .before .before .before .before in let a = s .args in text-put (a .jobs .now) (a .arcs .now) (a .sections .now) (c .before .before .before .before .before .before .before .before .before .before .put-part .ensures) (c .before .before .before .before .before .before .put-part2 .ensures) (c .before .before .put-part3 .ensures) (s .pre .1)
+
+pub put-text-spec : {M : Type 1} → statement M
+put-text-spec =
+    tie.close
+    (tie.spec put-part-requires put-part-requires-2 put-part-requires-3 same-length returns)

@@ -1,0 +1,26 @@
+-- `text::writer::rows` meets its contract: a right count is small.
+use borrow.Author.Needs.{needs}
+use native.Mathlib.Omega.{arith}
+use Prim.Native.Nat.{_/_}
+use lib.ListN.{length}
+use Rattle.text.specs.Parts.{partOf, sound}
+use Rattle.text.proofs.writer.rows.Statement.{statement}
+use Rattle.text.proofs.writer.rows.Tie as tie
+use Rattle.text.proofs.writer.rows.Reads as reads
+use Rattle.text.proofs.writer.rows.Lts as lts
+use Rattle.text.proofs.parts.Part.width.Reads as width-reads
+
+width-requires : tie.Need-width-requires
+width-requires c κs = search needs
+
+div-result : tie.Need-div-result
+div-result c = search needs
+
+cast-result : tie.Need-cast-result
+cast-result c = record { fits = rw (c .width .ensures .0) (omega (arith, sound (c .before .before .args .part) .few (length (c .before .before .args .values .now) / partOf (c .before .before .args .part) .width) (c .before .before .pre .right))) }
+
+returns : tie.Need-returns
+returns c = rw (c .width .ensures .0)
+
+pub rows-spec : {M : Type 1} → statement M
+rows-spec = tie.close (tie.spec width-requires div-result cast-result returns)

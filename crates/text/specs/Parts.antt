@@ -1,0 +1,20 @@
+-- The code's three parts are those of the rules.
+use mathlib.Core.Path.{_≡_}
+use mathlib.Core.Bool.{true}
+use Prim.Native.Nat.{ℕ, _*_, _≤_}
+use native.Mathlib.Omega.{arith}
+use Rattle.rules.specs.Text.{jobPart, arcPart, sectionPart}
+use Rattle.rules.specs.Text as rules
+use Rattle.laws.specs.Text.{Sound, jobs-sound, arcs-sound, sections-sound}
+use Rattle.text.specs.declared.parts.Part.{Part}
+use Rattle.text.specs.declared.parts.Part.the-variants.{Jobs, Arcs, Sections}
+
+abbrev pub partOf : Part → rules.Part
+partOf Jobs = jobPart
+partOf Arcs = arcPart
+partOf Sections = sectionPart
+
+pub sound : (p : Part) → Sound (partOf p)
+sound Jobs = jobs-sound
+sound Arcs = arcs-sound
+sound Sections = sections-sound
