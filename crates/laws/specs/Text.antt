@@ -35,7 +35,7 @@ use Rattle.rules.specs.Text.{
   nothingLeft,
   read,
 }
-use Rattle.laws.specs.Refusals.{not-both}
+use Rattle.laws.specs.Answers.{not-both}
 use Rattle.laws.specs.Digits.{LineFirst, line-back, line-is}
 
 -- each value is a 32-bit number

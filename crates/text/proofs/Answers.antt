@@ -12,7 +12,7 @@ use Rattle.rules.specs.Refusals.{Fault, fault, faultOf, Outcome, refused, gives
 use Rattle.rules.specs.Text.{jobPart, arcPart, sectionPart, textOf, read}
 use Rattle.rules.specs.declared.Refusal.{Refusal}
 use Rattle.rules.specs.declared.Refusal.the-variants.{Jobs, Arcs, Sections, Room}
-use Rattle.laws.specs.Refusals.{not-both}
+use Rattle.laws.specs.Answers.{not-both}
 use Rattle.laws.specs.Text.{lengthRight, countFault, count-fault, counted-is, counts-is, read-is}
 use Rattle.text.specs.declared.Writing.the-variants.{Refused, Bytes}
 use Rattle.text.specs.Put.{Over}

@@ -8,7 +8,7 @@ use lib.ListN.{length, take, drop, set, length-append, length-drop, length-set}
 use lib.Seq.{drop-drop}
 use Rattle.rules.specs.Refusals.{Fault, fault, Outcome, refused, gives}
 use Rattle.rules.specs.Text.{Part, key, keyAt, Front, value, wrong, lineValue, Taken, prepend, readValues, readPart}
-use Rattle.laws.specs.Refusals.{not-both}
+use Rattle.laws.specs.Answers.{not-both}
 use Rattle.laws.specs.Text.{taken, values-more, values-none, onLine, part-read, onCount, values-is}
 use Rattle.text.specs.declared.leaves.Found.{Found}
 use Rattle.text.specs.declared.leaves.Found.the-variants.{Value, Stopped}

@@ -16,7 +16,7 @@ use Rattle.rules.specs.Text.{textOf}
 use Rattle.rules.specs.Text as rules
 use Rattle.rules.specs.declared.Refusal.{Refusal}
 use Rattle.rules.specs.declared.Refusal.the-variants.{Room}
-use Rattle.laws.specs.Refusals.{not-both, fault-settles}
+use Rattle.laws.specs.Answers.{not-both, fault-settles}
 use Rattle.laws.specs.Text.{Right, counts-is, TextOf, read-back, read-is}
 use Rattle.laws.specs.Lines.{RightText, FirstWrong, refused-at, right-none, from-one}
 use Rattle.text.specs.declared.Reading.{Reading}

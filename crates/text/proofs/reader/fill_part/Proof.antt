@@ -3,7 +3,7 @@ use borrow.Author.Needs.{needs}
 use native.Mathlib.Omega.{arith}
 use lib.ListN.{drop}
 use Rattle.rules.specs.Text.{key, lineValue}
-use Rattle.laws.specs.Refusals.{not-both}
+use Rattle.laws.specs.Answers.{not-both}
 use Rattle.text.specs.declared.leaves.Found.the-variants.{Value}
 use Rattle.text.specs.Leaves.{Took}
 use Rattle.text.specs.Parts.{partOf}
