@@ -13,7 +13,7 @@ use crate::parts::Part;
 // ---- lengths
 
 // How many digits n has.
-fn digit_count(n: u32) -> usize
+pub fn digit_count(n: u32) -> usize
     ensures { λ r. ⌜ (r ≡ length (digits n)) × (r ≤ 10) ⌝ }
 {
     let mut rest = n;
@@ -89,7 +89,7 @@ pub fn put_bytes(out: &mut [u8], at: usize, bytes: &[u8]) -> usize
 }
 
 // The digits of n, written from `at` on, the last one first.
-fn put_number(out: &mut [u8], at: usize, n: u32) -> usize
+pub fn put_number(out: &mut [u8], at: usize, n: u32) -> usize
     requires { ⌜ at + length (digits n) ≤ length (now out) ⌝ }
     ensures { λ r. ⌜ Over (now (out .entry)) at (digits n) (now (out .exit)) r ⌝ }
 {
