@@ -21,11 +21,17 @@ fn print_refusal(r: Refusal) {
 
 // The first n of a list, or all of them where it has fewer.
 fn front(list: &[u32], n: usize) -> &[u32] {
-    if n <= list.len() { &list[..n] } else { list }
+    if list.len() < n {
+        return list;
+    }
+    &list[0..n]
 }
 
 fn front_bytes(bytes: &[u8], n: usize) -> &[u8] {
-    if n <= bytes.len() { &bytes[..n] } else { bytes }
+    if bytes.len() < n {
+        return bytes;
+    }
+    &bytes[0..n]
 }
 
 // Writes a table that was read, into as many bytes as the longest text has, and compares.
