@@ -8,7 +8,7 @@ use borrow.Author.Tests.{le-leb, lt-leb, leb-true}
 use lib.Dec.{leb}
 use lib.ListN.{length}
 use Rattle.rules.specs.Table.{Table}
-use Rattle.rules.specs.Refusals.{Fault, fault, faultOf, Outcome, refused, gives, andThen, firstOf, demand, unless, room}
+use Rattle.rules.specs.Refusals.{faultOf, Outcome, refused, gives, andThen, firstOf, demand, unless, room}
 use Rattle.rules.specs.Text.{jobPart, arcPart, sectionPart, textOf, read}
 use Rattle.rules.specs.declared.Refusal.{Refusal}
 use Rattle.rules.specs.declared.Refusal.the-variants.{Jobs, Arcs, Sections, Room}

@@ -1,12 +1,12 @@
 -- A whole text, by what was judged of its three parts.
-use mathlib.Core.Path.{_≡_, refl, sym, _∙_, ap}
-use mathlib.Core.List.{List, [], _∷_}
-use Prim.Native.Nat.{ℕ, _+_, _*_, _/_, _<_, _≤_}
+use mathlib.Core.Path.{_≡_, _∙_}
+use mathlib.Core.List.{List}
+use Prim.Native.Nat.{ℕ, _+_, _/_, _<_, _≤_}
 use native.Mathlib.Omega.{arith}
-use lib.ListN.{length, getD, drop, drop-of-length-le}
+use lib.ListN.{length, drop, drop-of-length-le}
 use lib.Seq.{drop-cons}
 use Rattle.rules.specs.Table.{Table}
-use Rattle.rules.specs.Refusals.{Fault, fault, Outcome, refused, gives}
+use Rattle.rules.specs.Refusals.{Fault, fault, refused, gives}
 use Rattle.rules.specs.Text.{jobPart, arcPart, sectionPart, readPart, read}
 use Rattle.laws.specs.Text.{taken, read-parts, onJobs, onArcs, onSections, part-is}
 use Rattle.text.specs.declared.parts.Part.{Part}

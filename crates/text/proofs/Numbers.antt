@@ -1,15 +1,14 @@
 -- One step of reading a number: index i of the text, where the digits before it stand for n.
-use mathlib.Core.Path.{_≡_, refl, sym, _∙_}
-use mathlib.Core.Bool.{true, false, _||_}
+use mathlib.Core.Path.{_≡_, refl, _∙_}
+use mathlib.Core.Bool.{true, false}
 use mathlib.Core.List.{List, [], _∷_}
 use Prim.Native.Nat.{ℕ, _+_, _-_, _*_, _<_, _≤_}
 use native.Mathlib.Numerals.{add-one}
 use native.Mathlib.Omega.{arith}
 use borrow.Author.Tests.{eq-eqb, ne-eqb, le-ltb, lt-ltb}
-use lib.Dec.{ltb, eqb}
 use lib.ListN.{length, getD, drop, drop-of-length-le}
 use lib.Seq.{drop-cons}
-use Rattle.rules.specs.Text.{lf, Front, value, wrong, afterBytes, isDigit, mostNumber, numberFrom, number}
+use Rattle.rules.specs.Text.{lf, value, afterBytes, isDigit, mostNumber, numberFrom, number}
 use Rattle.laws.specs.Digits.{high}
 use Rattle.text.specs.declared.leaves.Found.the-variants.{Value, Stopped}
 use Rattle.text.specs.Leaves.{Took}

@@ -1,12 +1,11 @@
 -- A line's value by the stages of reading it: its key, its number, its LF.
-use mathlib.Core.Path.{_≡_, sym, _∙_, ap}
-use mathlib.Core.List.{List, [], _∷_}
+use mathlib.Core.Path.{_∙_, ap}
+use mathlib.Core.List.{List}
 use Prim.Native.Nat.{ℕ, _+_, _≤_}
 use native.Mathlib.Omega.{arith}
 use lib.ListN.{length, drop, length-drop}
 use lib.Seq.{drop-drop}
-use Rattle.rules.specs.Text.{Front, value, wrong, lf, afterBytes, number, lineValue}
-use Rattle.text.specs.declared.leaves.Match.{Match}
+use Rattle.rules.specs.Text.{Front, wrong, number, lineValue}
 use Rattle.text.specs.declared.leaves.Match.the-variants.{Whole, Stopped}
 use Rattle.text.specs.declared.leaves.Found.{Found}
 use Rattle.text.specs.declared.leaves.Found.the-variants.{Value}

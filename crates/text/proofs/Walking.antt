@@ -1,13 +1,13 @@
 -- One line after the other: the values that are done, and what is left to read, make the whole.
 use mathlib.Core.Path.{_≡_, refl, sym, _∙_, ap}
-use mathlib.Core.Bool.{Bool, true, false, cond}
+use mathlib.Core.Bool.{Bool, true, false}
 use mathlib.Core.List.{List, [], _∷_, _++_}
-use Prim.Native.Nat.{ℕ, zero, suc, _+_, _-_, _*_, _%_, _<_, _≤_}
+use Prim.Native.Nat.{ℕ, suc, _+_, _-_, _*_, _%_, _<_, _≤_}
 use native.Mathlib.Omega.{arith}
 use lib.ListN.{length, take, drop, set, length-append, length-drop, length-set}
 use lib.Seq.{drop-drop}
 use Rattle.rules.specs.Refusals.{Fault, fault, Outcome, refused, gives}
-use Rattle.rules.specs.Text.{Part, key, keyAt, Front, value, wrong, lineValue, Taken, prepend, readValues, readPart}
+use Rattle.rules.specs.Text.{Part, key, Front, lineValue, Taken, prepend, readValues, readPart}
 use Rattle.laws.specs.Refusals.{not-both}
 use Rattle.laws.specs.Text.{taken, values-more, values-none, onLine, part-read, onCount, values-is}
 use Rattle.text.specs.declared.leaves.Found.{Found}

@@ -2,7 +2,6 @@
 use borrow.Author.Needs.{needs}
 use mathlib.Core.Path.{_≡_, sym, _∙_}
 use mathlib.Core.Bool.{true}
-use mathlib.Core.List.{List}
 use Prim.Native.Nat.{ℕ, _*_}
 use borrow.Author.Tests.{not-true, not-false}
 use lib.Dec.{leb}
@@ -13,11 +12,6 @@ use Rattle.text.specs.Promises.{counted}
 use Rattle.text.proofs.Answers.{text-refused, lacks-jobs, lacks-arcs, lacks-sections, table-ready, reads}
 use Rattle.text.proofs.read.Statement.{statement}
 use Rattle.text.proofs.read.Tie as tie
-use Rattle.text.proofs.read.Reads as reads
-use Rattle.text.proofs.read.Lts as lts
-use Rattle.text.proofs.parts.Part.has_room.Reads as has-room-reads
-use Rattle.text.proofs.reader.fill.Reads as fill-reads
-use Rattle.text.proofs.reader.judge.Reads as judge-reads
 
 -- the counts that were judged right, and that each list has room
 abbrev jobs : tie.After-known-told → ℕ

@@ -10,11 +10,6 @@ use Rattle.laws.specs.Text.{lengthRight}
 use Rattle.text.proofs.Answers.{no-jobs, no-arcs, no-sections, all-counted, no-room, writes}
 use Rattle.text.proofs.write.Statement.{statement}
 use Rattle.text.proofs.write.Tie as tie
-use Rattle.text.proofs.write.Reads as reads
-use Rattle.text.proofs.write.Lts as lts
-use Rattle.text.proofs.parts.Part.right_length.Reads as right-length-reads
-use Rattle.text.proofs.writer.put_text.Reads as put-text-reads
-use Rattle.text.proofs.writer.text_length.Reads as text-length-reads
 
 -- what the three tests have shown
 jobs-right : (c : tie.Else1) → lengthRight jobPart (length (c .before .before .before .before .before .before .args .jobs .now)) ≡ true

@@ -3,8 +3,6 @@ use borrow.Author.Needs.{needs}
 use Rattle.text.proofs.Table.{key-at}
 use Rattle.text.proofs.keys.key_length.Statement.{statement}
 use Rattle.text.proofs.keys.key_length.Tie as tie
-use Rattle.text.proofs.keys.key_length.Reads as reads
-use Rattle.text.proofs.keys.key_length.Lts as lts
 
 mul-result : tie.Need-mul-result
 mul-result c = search needs

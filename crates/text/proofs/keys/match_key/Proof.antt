@@ -5,9 +5,6 @@ use Rattle.text.proofs.Table.{key-at}
 use Rattle.text.proofs.Table.{key-at, lent-key}
 use Rattle.text.proofs.keys.match_key.Statement.{statement}
 use Rattle.text.proofs.keys.match_key.Tie as tie
-use Rattle.text.proofs.keys.match_key.Reads as reads
-use Rattle.text.proofs.keys.match_key.Lts as lts
-use Rattle.text.proofs.leaves.match_bytes.Reads as match-bytes-reads
 
 mul-start : tie.Need-mul-start
 mul-start c = search needs

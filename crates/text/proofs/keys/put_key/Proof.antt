@@ -4,9 +4,6 @@ use native.Mathlib.Omega.{arith}
 use Rattle.text.proofs.Table.{key-at, lent-key}
 use Rattle.text.proofs.keys.put_key.Statement.{statement}
 use Rattle.text.proofs.keys.put_key.Tie as tie
-use Rattle.text.proofs.keys.put_key.Reads as reads
-use Rattle.text.proofs.keys.put_key.Lts as lts
-use Rattle.text.proofs.writer.put_bytes.Reads as put-bytes-reads
 
 mul-start : tie.Need-mul-start
 mul-start c = search needs

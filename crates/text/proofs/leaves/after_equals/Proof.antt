@@ -3,8 +3,6 @@ use borrow.Author.Needs.{needs}
 use Rattle.text.proofs.Lists.{rest-is}
 use Rattle.text.proofs.leaves.after_equals.Statement.{statement}
 use Rattle.text.proofs.leaves.after_equals.Tie as tie
-use Rattle.text.proofs.leaves.after_equals.Reads as reads
-use Rattle.text.proofs.leaves.after_equals.Lts as lts
 
 sub-result : tie.Need-sub-result
 sub-result c = search needs

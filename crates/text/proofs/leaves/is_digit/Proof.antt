@@ -1,11 +1,8 @@
 -- `text::leaves::is_digit` meets its contract, by its two tests.
-use borrow.Author.Needs.{needs}
 use borrow.Author.Tests.{lt-leb, le-leb}
 use Rattle.rules.specs.Text.{isDigit}
 use Rattle.text.proofs.leaves.is_digit.Statement.{statement}
 use Rattle.text.proofs.leaves.is_digit.Tie as tie
-use Rattle.text.proofs.leaves.is_digit.Reads as reads
-use Rattle.text.proofs.leaves.is_digit.Lts as lts
 
 returns : tie.Need-returns
 unfolding isDigit

@@ -4,8 +4,6 @@ use native.Mathlib.Omega.{arith}
 use Rattle.text.proofs.Numbers.{cut, no-lf, an-lf}
 use Rattle.text.proofs.leaves.line_end.Statement.{statement}
 use Rattle.text.proofs.leaves.line_end.Tie as tie
-use Rattle.text.proofs.leaves.line_end.Reads as reads
-use Rattle.text.proofs.leaves.line_end.Lts as lts
 
 returns : tie.Need-returns
 returns c = cut _ _ _ (omega arith) (c .if1 .taken)

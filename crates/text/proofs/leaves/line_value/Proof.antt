@@ -1,10 +1,9 @@
 -- `text::leaves::line_value` meets its contract, stage by stage.
 use borrow.Author.Needs.{needs}
-use mathlib.Core.Path.{_≡_}
 use mathlib.Core.List.{List}
-use Prim.Native.Nat.{ℕ, _+_}
+use Prim.Native.Nat.{ℕ}
 use native.Mathlib.Omega.{arith}
-use lib.ListN.{length, drop, length-drop}
+use lib.ListN.{drop}
 use Rattle.rules.specs.Text.{key, number}
 use Rattle.text.specs.declared.leaves.Match.the-variants.{Whole}
 use Rattle.text.specs.declared.leaves.Found.the-variants.{Value, Stopped}
@@ -12,12 +11,6 @@ use Rattle.text.specs.Leaves.{Matched, Took}
 use Rattle.text.proofs.Stages.{in-line, key-stops, number-stops, line-ended}
 use Rattle.text.proofs.leaves.line_value.Statement.{statement}
 use Rattle.text.proofs.leaves.line_value.Tie as tie
-use Rattle.text.proofs.leaves.line_value.Reads as reads
-use Rattle.text.proofs.leaves.line_value.Lts as lts
-use Rattle.text.proofs.keys.match_key.Reads as match-key-reads
-use Rattle.text.proofs.leaves.after_equals.Reads as after-equals-reads
-use Rattle.text.proofs.leaves.line_end.Reads as line-end-reads
-use Rattle.text.proofs.leaves.read_number.Reads as read-number-reads
 
 -- the line, its key, and where that ends, in the arm in which it is there
 abbrev line : tie.After-known-told2 → List ℕ

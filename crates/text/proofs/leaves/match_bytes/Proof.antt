@@ -6,8 +6,6 @@ use lib.ListN.{length}
 use Rattle.text.proofs.Matching.{Matching, begun, all-there, cut, differs, goes}
 use Rattle.text.proofs.leaves.match_bytes.Statement.{statement}
 use Rattle.text.proofs.leaves.match_bytes.Tie as tie
-use Rattle.text.proofs.leaves.match_bytes.Reads as reads
-use Rattle.text.proofs.leaves.match_bytes.Lts as lts
 
 abbrev Inv-loop : tie.InvT-loop
 Inv-loop line bytes i₀ i = Matching bytes line i

@@ -11,10 +11,6 @@ use Rattle.laws.specs.Digits.{low, high}
 use Rattle.text.proofs.Numbers.{Counting, empty, no-digit, begun, ended, other, leading, too-large, longer}
 use Rattle.text.proofs.leaves.read_number.Statement.{statement}
 use Rattle.text.proofs.leaves.read_number.Tie as tie
-use Rattle.text.proofs.leaves.read_number.Reads as reads
-use Rattle.text.proofs.leaves.read_number.Lts as lts
-use Rattle.text.proofs.leaves.is_digit.Reads as is-digit-reads
-use Rattle.text.proofs.leaves.wide.Reads as wide-reads
 
 abbrev Inv-loop : tie.InvT-loop
 Inv-loop digits first value₀ i₀ value i = Counting digits value i

@@ -3,9 +3,6 @@ use borrow.Author.Needs.{needs}
 use Rattle.text.proofs.Filling.{jobs-ready, arcs-ready, sections-ready, table-filled}
 use Rattle.text.proofs.reader.fill.Statement.{statement}
 use Rattle.text.proofs.reader.fill.Tie as tie
-use Rattle.text.proofs.reader.fill.Reads as reads
-use Rattle.text.proofs.reader.fill.Lts as lts
-use Rattle.text.proofs.reader.fill_part.Reads as fill-part-reads
 
 fill-part-requires : tie.Need-fill-part-requires
 fill-part-requires c κs = jobs-ready (c .before .before .before .before .before .pre)

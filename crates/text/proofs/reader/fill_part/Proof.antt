@@ -10,12 +10,6 @@ use Rattle.text.specs.Parts.{partOf}
 use Rattle.text.proofs.Walking.{line-at, part-stops, count-within, rows-ready, part-filled}
 use Rattle.text.proofs.reader.fill_part.Statement.{statement}
 use Rattle.text.proofs.reader.fill_part.Tie as tie
-use Rattle.text.proofs.reader.fill_part.Reads as reads
-use Rattle.text.proofs.reader.fill_part.Lts as lts
-use Rattle.text.proofs.leaves.line_value.Reads as line-value-reads
-use Rattle.text.proofs.parts.Part.head.Reads as head-reads
-use Rattle.text.proofs.parts.Part.values.Reads as values-reads
-use Rattle.text.proofs.reader.fill_values.Reads as fill-values-reads
 
 sub-line-value : tie.Need-sub-line-value
 sub-line-value c = search needs

@@ -12,10 +12,6 @@ use Rattle.text.specs.declared.leaves.Found.the-variants.{Value}
 use Rattle.text.specs.Leaves.{Took}
 use Rattle.text.proofs.reader.fill_values.Statement.{statement}
 use Rattle.text.proofs.reader.fill_values.Tie as tie
-use Rattle.text.proofs.reader.fill_values.Reads as reads
-use Rattle.text.proofs.reader.fill_values.Lts as lts
-use Rattle.text.proofs.leaves.line_value.Reads as line-value-reads
-use Rattle.text.proofs.parts.Part.key_at.Reads as key-at-reads
 
 abbrev Inv-loop : tie.InvT-loop
 Inv-loop text part n from out₀ at₀ i₀ out at i = Filling (partOf part) n text from out₀ out i at

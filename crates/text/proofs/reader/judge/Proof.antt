@@ -1,6 +1,5 @@
 -- `text::reader::judge` meets its contract, part by part.
 use borrow.Author.Needs.{needs}
-use mathlib.Core.List.{List}
 use native.Mathlib.Omega.{arith}
 use lib.ListN.{drop}
 use Rattle.rules.specs.Text.{jobPart, arcPart, sectionPart, readPart}
@@ -9,9 +8,6 @@ use Rattle.text.specs.Passes.{Gives}
 use Rattle.text.proofs.Judging.{next-line, jobs-refused, arcs-refused, sections-refused, left-over, whole, counts, says-refused, says-counts}
 use Rattle.text.proofs.reader.judge.Statement.{statement}
 use Rattle.text.proofs.reader.judge.Tie as tie
-use Rattle.text.proofs.reader.judge.Reads as reads
-use Rattle.text.proofs.reader.judge.Lts as lts
-use Rattle.text.proofs.reader.judge_part.Reads as judge-part-reads
 
 -- what each part gives, in the arm in which it is right: its count, the place after it and the line there
 jobs-given : (c : tie.After-known-told2)

@@ -15,13 +15,6 @@ use Rattle.text.proofs.Rows.{few-rows}
 use Rattle.text.proofs.Walking.{line-at, part-stops, count-within, part-wrong, part-rows}
 use Rattle.text.proofs.reader.judge_part.Statement.{statement}
 use Rattle.text.proofs.reader.judge_part.Tie as tie
-use Rattle.text.proofs.reader.judge_part.Reads as reads
-use Rattle.text.proofs.reader.judge_part.Lts as lts
-use Rattle.text.proofs.leaves.line_value.Reads as line-value-reads
-use Rattle.text.proofs.parts.Part.head.Reads as head-reads
-use Rattle.text.proofs.parts.Part.refusal.Reads as refusal-reads
-use Rattle.text.proofs.parts.Part.right.Reads as right-reads
-use Rattle.text.proofs.reader.judge_rows.Reads as judge-rows-reads
 
 sub-line-value : tie.Need-sub-line-value
 sub-line-value c = search needs

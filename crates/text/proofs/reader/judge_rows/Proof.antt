@@ -1,6 +1,6 @@
 -- `text::reader::judge_rows` meets its contract: the values that are done, and what is left to read, make the whole.
 use borrow.Author.Needs.{needs}
-use mathlib.Core.Path.{_≡_, refl, sym, _∙_, ap}
+use mathlib.Core.Path.{_≡_}
 use Prim.Native.Nat.{_+_, _*_, _-_, _≤_}
 use native.Mathlib.Omega.{arith}
 use Rattle.text.specs.Parts.{partOf}
@@ -13,11 +13,6 @@ use Rattle.text.specs.declared.leaves.Found.the-variants.{Value}
 use Rattle.text.specs.Leaves.{Took}
 use Rattle.text.proofs.reader.judge_rows.Statement.{statement}
 use Rattle.text.proofs.reader.judge_rows.Tie as tie
-use Rattle.text.proofs.reader.judge_rows.Reads as reads
-use Rattle.text.proofs.reader.judge_rows.Lts as lts
-use Rattle.text.proofs.leaves.line_value.Reads as line-value-reads
-use Rattle.text.proofs.parts.Part.key_at.Reads as key-at-reads
-use Rattle.text.proofs.parts.Part.values.Reads as values-reads
 
 abbrev Inv-loop : tie.InvT-loop
 Inv-loop text part count from first n at₀ line₀ i₀ at line i = (n ≡ count * partOf part .width) × (n ≤ 1024) × (first ≤ 4096) × (line ≡ first + i) × Walking (partOf part) n text from first i at

@@ -1,5 +1,4 @@
 -- `text::writer::digit_count` meets its contract: what is counted, with the digits of what is left, is the digits and one more.
-use borrow.Author.Needs.{needs}
 use mathlib.Core.Path.{_≡_, ap}
 use Prim.Native.Nat.{_+_, _^_, _<_, _≤_}
 use native.Mathlib.Omega.{arith}
@@ -8,8 +7,6 @@ use Rattle.rules.specs.Text.{digits}
 use Rattle.laws.specs.Digits.{one-digit, last-digit, digits-most}
 use Rattle.text.proofs.writer.digit_count.Statement.{statement}
 use Rattle.text.proofs.writer.digit_count.Tie as tie
-use Rattle.text.proofs.writer.digit_count.Reads as reads
-use Rattle.text.proofs.writer.digit_count.Lts as lts
 
 abbrev Inv-loop : tie.InvT-loop
 Inv-loop n rest₀ count₀ rest count = (rest ≤ n) × (n < 2 ^ 32) × (count + length (digits rest) ≡ length (digits n) + 1)

@@ -5,10 +5,6 @@ use Rattle.rules.specs.Text.{key}
 use Rattle.laws.specs.Digits.{line-length}
 use Rattle.text.proofs.writer.line_length.Statement.{statement}
 use Rattle.text.proofs.writer.line_length.Tie as tie
-use Rattle.text.proofs.writer.line_length.Reads as reads
-use Rattle.text.proofs.writer.line_length.Lts as lts
-use Rattle.text.proofs.keys.key_length.Reads as key-length-reads
-use Rattle.text.proofs.writer.digit_count.Reads as digit-count-reads
 
 key-length-requires : tie.Need-key-length-requires
 key-length-requires c κs = search needs

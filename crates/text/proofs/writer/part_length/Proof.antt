@@ -5,12 +5,6 @@ use Rattle.text.specs.Parts.{partOf}
 use Rattle.text.proofs.Rows.{few-values, part-length}
 use Rattle.text.proofs.writer.part_length.Statement.{statement}
 use Rattle.text.proofs.writer.part_length.Tie as tie
-use Rattle.text.proofs.writer.part_length.Reads as reads
-use Rattle.text.proofs.writer.part_length.Lts as lts
-use Rattle.text.proofs.parts.Part.head.Reads as head-reads
-use Rattle.text.proofs.writer.line_length.Reads as line-length-reads
-use Rattle.text.proofs.writer.rows.Reads as rows-reads
-use Rattle.text.proofs.writer.values_length.Reads as values-length-reads
 
 head-requires : tie.Need-head-requires
 head-requires c κs = search needs

@@ -6,8 +6,6 @@ use lib.ListN.{length}
 use Rattle.text.proofs.Putting.{Copying, begin, copy, copied}
 use Rattle.text.proofs.writer.put_bytes.Statement.{statement}
 use Rattle.text.proofs.writer.put_bytes.Tie as tie
-use Rattle.text.proofs.writer.put_bytes.Reads as reads
-use Rattle.text.proofs.writer.put_bytes.Lts as lts
 
 abbrev Inv-loop : tie.InvT-loop
 Inv-loop out₀ at bytes i₀ out i = Copying out₀ at bytes out i

@@ -1,5 +1,4 @@
 -- `text::writer::put_line` meets its contract: three pieces, one after the other.
-use borrow.Author.Needs.{needs}
 use native.Mathlib.Omega.{arith}
 use lib.ListN.{length, length-append, length-set}
 use Prim.Native.Nat.{_<_}
@@ -8,10 +7,6 @@ use Rattle.laws.specs.Digits.{line-bytes, line-length}
 use Rattle.text.proofs.Putting.{two, one}
 use Rattle.text.proofs.writer.put_line.Statement.{statement}
 use Rattle.text.proofs.writer.put_line.Tie as tie
-use Rattle.text.proofs.writer.put_line.Reads as reads
-use Rattle.text.proofs.writer.put_line.Lts as lts
-use Rattle.text.proofs.keys.put_key.Reads as put-key-reads
-use Rattle.text.proofs.writer.put_number.Reads as put-number-reads
 
 -- there is a place for the LF
 ended : (c : tie.After-slice-known3) → c .before .before .put-number .result < length (c .before .before .put-number .last .0)

@@ -9,9 +9,6 @@ use Rattle.laws.specs.Digits.{one-digit}
 use Rattle.text.proofs.Putting.{Numbering, digits-more, writes, written}
 use Rattle.text.proofs.writer.put_number.Statement.{statement}
 use Rattle.text.proofs.writer.put_number.Tie as tie
-use Rattle.text.proofs.writer.put_number.Reads as reads
-use Rattle.text.proofs.writer.put_number.Lts as lts
-use Rattle.text.proofs.writer.digit_count.Reads as digit-count-reads
 
 abbrev Inv-loop : tie.InvT-loop
 Inv-loop out₀ at n end p₀ rest₀ out p rest = (end ≡ at + length (digits n)) × Numbering out₀ at n out rest p

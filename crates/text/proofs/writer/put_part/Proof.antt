@@ -10,12 +10,6 @@ use Rattle.text.specs.Parts.{partOf}
 use Rattle.text.proofs.Rows.{part-length, part-put}
 use Rattle.text.proofs.writer.put_part.Statement.{statement}
 use Rattle.text.proofs.writer.put_part.Tie as tie
-use Rattle.text.proofs.writer.put_part.Reads as reads
-use Rattle.text.proofs.writer.put_part.Lts as lts
-use Rattle.text.proofs.parts.Part.head.Reads as head-reads
-use Rattle.text.proofs.writer.put_line.Reads as put-line-reads
-use Rattle.text.proofs.writer.put_values.Reads as put-values-reads
-use Rattle.text.proofs.writer.rows.Reads as rows-reads
 
 abbrev part : tie.After-rows → Part
 part c = partOf (c .before .before .before .before .before .args .part)

@@ -4,9 +4,6 @@ use native.Mathlib.Omega.{arith}
 use Rattle.text.proofs.Rows.{text-length, text-put}
 use Rattle.text.proofs.writer.put_text.Statement.{statement}
 use Rattle.text.proofs.writer.put_text.Tie as tie
-use Rattle.text.proofs.writer.put_text.Reads as reads
-use Rattle.text.proofs.writer.put_text.Lts as lts
-use Rattle.text.proofs.writer.put_part.Reads as put-part-reads
 
 put-part-requires : tie.Need-put-part-requires
 put-part-requires c κs = let s = c .before .before .before .before .before in let a = s .args in (s .pre .0 .jobs-counted, omega (arith, text-length (a .jobs .now) (a .arcs .now) (a .sections .now)))

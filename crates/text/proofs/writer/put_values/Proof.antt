@@ -7,10 +7,6 @@ use Rattle.text.specs.Parts.{partOf}
 use Rattle.text.proofs.Lining.{Lining, lining, fits, line-put, lined}
 use Rattle.text.proofs.writer.put_values.Statement.{statement}
 use Rattle.text.proofs.writer.put_values.Tie as tie
-use Rattle.text.proofs.writer.put_values.Reads as reads
-use Rattle.text.proofs.writer.put_values.Lts as lts
-use Rattle.text.proofs.parts.Part.key_at.Reads as key-at-reads
-use Rattle.text.proofs.writer.put_line.Reads as put-line-reads
 
 abbrev Inv-loop : tie.InvT-loop
 Inv-loop out₀ from part values at₀ i₀ out at i = Lining out₀ from (partOf part) values out i at

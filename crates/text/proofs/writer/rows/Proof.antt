@@ -6,9 +6,6 @@ use lib.ListN.{length}
 use Rattle.text.specs.Parts.{partOf, sound}
 use Rattle.text.proofs.writer.rows.Statement.{statement}
 use Rattle.text.proofs.writer.rows.Tie as tie
-use Rattle.text.proofs.writer.rows.Reads as reads
-use Rattle.text.proofs.writer.rows.Lts as lts
-use Rattle.text.proofs.parts.Part.width.Reads as width-reads
 
 width-requires : tie.Need-width-requires
 width-requires c κs = search needs

@@ -4,9 +4,6 @@ use native.Mathlib.Omega.{arith}
 use Rattle.text.proofs.Rows.{text-length}
 use Rattle.text.proofs.writer.text_length.Statement.{statement}
 use Rattle.text.proofs.writer.text_length.Tie as tie
-use Rattle.text.proofs.writer.text_length.Reads as reads
-use Rattle.text.proofs.writer.text_length.Lts as lts
-use Rattle.text.proofs.writer.part_length.Reads as part-length-reads
 
 part-length-requires : tie.Need-part-length-requires
 part-length-requires c κs = c .before .before .before .pre .jobs-counted

@@ -7,10 +7,6 @@ use Rattle.text.specs.Parts.{partOf}
 use Rattle.text.proofs.Lining.{Measuring, measure, measured}
 use Rattle.text.proofs.writer.values_length.Statement.{statement}
 use Rattle.text.proofs.writer.values_length.Tie as tie
-use Rattle.text.proofs.writer.values_length.Reads as reads
-use Rattle.text.proofs.writer.values_length.Lts as lts
-use Rattle.text.proofs.parts.Part.key_at.Reads as key-at-reads
-use Rattle.text.proofs.writer.line_length.Reads as line-length-reads
 
 abbrev Inv-loop : tie.InvT-loop
 Inv-loop part values sum₀ i₀ sum i = (length values ≤ 1024) × Measuring (partOf part) values sum i

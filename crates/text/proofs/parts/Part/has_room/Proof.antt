@@ -2,9 +2,6 @@
 use borrow.Author.Needs.{needs}
 use Rattle.text.proofs.parts.Part.has_room.Statement.{statement}
 use Rattle.text.proofs.parts.Part.has_room.Tie as tie
-use Rattle.text.proofs.parts.Part.has_room.Reads as reads
-use Rattle.text.proofs.parts.Part.has_room.Lts as lts
-use Rattle.text.proofs.parts.Part.values.Reads as values-reads
 
 values-requires : tie.Need-values-requires
 values-requires c κs = search needs

@@ -4,10 +4,6 @@ use native.Mathlib.Nat.{mod-lt}
 use native.Mathlib.Omega.{arith}
 use Rattle.text.proofs.parts.Part.key_at.Statement.{statement}
 use Rattle.text.proofs.parts.Part.key_at.Tie as tie
-use Rattle.text.proofs.parts.Part.key_at.Reads as reads
-use Rattle.text.proofs.parts.Part.key_at.Lts as lts
-use Rattle.text.proofs.parts.Part.head.Reads as head-reads
-use Rattle.text.proofs.parts.Part.width.Reads as width-reads
 
 head-requires : tie.Need-head-requires
 head-requires c κs = search needs

@@ -2,8 +2,6 @@
 use borrow.Author.Needs.{needs}
 use Rattle.text.proofs.parts.Part.refusal.Statement.{statement}
 use Rattle.text.proofs.parts.Part.refusal.Tie as tie
-use Rattle.text.proofs.parts.Part.refusal.Reads as reads
-use Rattle.text.proofs.parts.Part.refusal.Lts as lts
 
 enum-told : tie.Need-enum-told
 enum-told c = search needs

@@ -3,8 +3,6 @@ use borrow.Author.Needs.{needs}
 use borrow.Author.Tests.{le-leb, lt-leb}
 use Rattle.text.proofs.parts.Part.right.Statement.{statement}
 use Rattle.text.proofs.parts.Part.right.Tie as tie
-use Rattle.text.proofs.parts.Part.right.Reads as reads
-use Rattle.text.proofs.parts.Part.right.Lts as lts
 
 enum-told : tie.Need-enum-told
 enum-told c = search needs

@@ -6,10 +6,6 @@ use Rattle.text.proofs.Rows.{whole-rows}
 use Rattle.text.specs.Parts.{partOf}
 use Rattle.text.proofs.parts.Part.right_length.Statement.{statement}
 use Rattle.text.proofs.parts.Part.right_length.Tie as tie
-use Rattle.text.proofs.parts.Part.right_length.Reads as reads
-use Rattle.text.proofs.parts.Part.right_length.Lts as lts
-use Rattle.text.proofs.parts.Part.right.Reads as right-reads
-use Rattle.text.proofs.parts.Part.width.Reads as width-reads
 
 width-requires : tie.Need-width-requires
 width-requires c κs = search needs

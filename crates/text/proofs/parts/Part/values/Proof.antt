@@ -4,9 +4,6 @@ use native.Mathlib.Nat.{mul-le-mul-left}
 use native.Mathlib.Omega.{arith}
 use Rattle.text.proofs.parts.Part.values.Statement.{statement}
 use Rattle.text.proofs.parts.Part.values.Tie as tie
-use Rattle.text.proofs.parts.Part.values.Reads as reads
-use Rattle.text.proofs.parts.Part.values.Lts as lts
-use Rattle.text.proofs.parts.Part.width.Reads as width-reads
 
 width-requires : tie.Need-width-requires
 width-requires c κs = search needs
