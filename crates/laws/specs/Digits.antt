@@ -1,7 +1,7 @@
 -- A number and its decimal digits, a line and its value: what is written is read back, and what is read is what is written.
-use mathlib.Core.Path.{_≡_, refl, sym, _∙_, ap, ap₂}
+use mathlib.Core.Path.{_≡_, refl, sym, _∙_, ap₂}
 use mathlib.Core.Bool.{Bool, true, false, cond, _||_, and-eq-true-iff}
-use mathlib.Core.List.{List, [], _∷_, _++_, append-assoc, append-nil}
+use mathlib.Core.List.{List, [], _∷_, _++_, append-assoc}
 use Prim.Native.Nat.{ℕ, zero, suc, _+_, _-_, _*_, _/_, _%_, _^_, _<_, _≤_}
 use native.Mathlib.Nat.{pow-suc}
 use native.Mathlib.Omega.{arith}

@@ -1,5 +1,5 @@
 -- The lines of a text, and the first wrong one: a refusal's place is the first line with which no right text goes on.
-use mathlib.Core.Path.{_≡_, refl, sym, _∙_, ap, ap₂}
+use mathlib.Core.Path.{_≡_, refl, sym, _∙_, ap}
 use mathlib.Core.Bool.{Bool, true, false, cond, not, _&&_, and-eq-true-iff}
 use mathlib.Core.List.{List, [], _∷_, _++_, append-assoc, append-nil}
 use Prim.Native.Nat.{ℕ, zero, suc, _+_, _-_, _*_, _/_, _%_, _<_, _≤_}
@@ -40,43 +40,7 @@ use Rattle.rules.specs.Text.{
 use Rattle.laws.specs.Tests.{clash}
 use Rattle.laws.specs.Digits.{LineFirst, line-bytes, line-back, line-is, ByTens, small, big, by-tens, one-digit, last-digit}
 use Rattle.laws.specs.Answers.{not-both}
-use Rattle.laws.specs.Text.{
-  Words,
-  words-none,
-  words-more,
-  lines-none as no-lines,
-  lines-more,
-  part-text,
-  onLine,
-  values-more,
-  values-none,
-  onCount,
-  part-read,
-  Sound,
-  jobs-sound,
-  arcs-sound,
-  sections-sound,
-  Counted,
-  taken,
-  part-back,
-  PartFirst,
-  counts-back,
-  Right,
-  text-of,
-  read-parts,
-  onJobs,
-  onArcs,
-  onSections,
-  Way,
-  in-jobs,
-  in-arcs,
-  in-sections,
-  left-over,
-  whole,
-  way,
-  TextOf,
-  read-back,
-}
+use Rattle.laws.specs.Text.{Words, words-none, words-more, lines-none as no-lines, lines-more, part-text, onLine, values-more, values-none, onCount, part-read, Sound, jobs-sound, arcs-sound, sections-sound, Counted, taken, part-back, PartFirst, counts-back, Right, text-of, read-parts, onJobs, onArcs, Way, in-jobs, in-arcs, in-sections, left-over, whole, way, TextOf, read-back}
 
 -- ---- cutting a text into lines
 

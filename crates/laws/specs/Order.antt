@@ -1,15 +1,14 @@
 -- The order of jobs is a strict total one, and is that of one number, for any bounds on releases and ranks.
-use mathlib.Core.Path.{_≡_, refl, sym, _∙_, ap}
+use mathlib.Core.Path.{_≡_, sym, ap}
 use mathlib.Core.Logic.{_≢_, _⊎_, inl, inr, ⊎-elim}
-use mathlib.Core.Bool.{Bool, true, false, _&&_, _||_}
-use Prim.Native.Nat.{ℕ, zero, suc, _+_, _*_, _≤_, _<_}
+use mathlib.Core.Bool.{true}
+use Prim.Native.Nat.{ℕ, suc, _+_, _*_, _≤_, _<_}
 use native.Mathlib.Nat.{mul-le-mul-right}
 use native.Mathlib.Decide.{ℕ-discrete, decLt, decLe}
 use native.Mathlib.Omega.{arith}
-use lib.Dec.{ltb, eqb}
 use Rattle.rules.specs.Table.{Plan, modifiedRelease, modifiedDeadline}
 use Rattle.rules.specs.Order.{rank, comesBefore}
-use Rattle.laws.specs.Tests.{Says, so, not-so, lt-says, eq-says, says-map, says-and, says-or, yes-says, no-says, yes-of, no-of}
+use Rattle.laws.specs.Tests.{Says, lt-says, eq-says, says-map, says-and, says-or, yes-says, yes-of, no-of}
 use Rattle.laws.specs.First.{Order}
 
 -- ---- by the three keys

@@ -1,6 +1,6 @@
 -- Laws of what is said of rows: all, any, counts, sums, the largest, the smallest, the lowest.
 use mathlib.Core.Path.{_≡_, refl, sym, _∙_, ap}
-use mathlib.Core.Logic.{_≢_, _⊎_, inl, inr, ⊎-elim}
+use mathlib.Core.Logic.{_≢_, ⊎-elim}
 use mathlib.Core.Bool.{Bool, true, false, cond, _&&_, _||_}
 use mathlib.Core.Option.{Option, none, some}
 use Prim.Native.Nat.{ℕ, zero, suc, _+_, _*_, _≤_, _<_, min, max}
@@ -8,21 +8,7 @@ use native.Mathlib.Numerals.{add-one}
 use native.Mathlib.Decide.{ℕ-discrete, decLt}
 use native.Mathlib.Omega.{arith}
 use Rattle.rules.specs.Rows.{all, any, count, sum, largest, smallest, orElse, lowest}
-use Rattle.laws.specs.Tests.{
-  Says,
-  so,
-  not-so,
-  tested,
-  clash,
-  says-map,
-  says-and,
-  says-or,
-  yes-says,
-  no-says,
-  yes-of,
-  no-of,
-  bool-says,
-}
+use Rattle.laws.specs.Tests.{Says, so, not-so, clash, says-map, says-and, says-or, yes-says, no-says, yes-of, no-of, bool-says}
 
 -- what holds of each row below n, and of n, holds of each below n + 1
 pub below-suc : (P : ℕ → Type 0) (n : ℕ) → ((k : ℕ) → k < n → P k) → P n → (k : ℕ) → k < suc n → P k

@@ -1,3 +1,4 @@
+-- What the proofs of several functions share.
 pub mod Matching
 pub mod Numbers
 pub mod Lists

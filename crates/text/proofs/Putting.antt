@@ -5,19 +5,7 @@ use Prim.Native.Nat.{ℕ, suc, _+_, _-_, _/_, _%_, _<_, _≤_}
 use native.Mathlib.Nat.{zero-add, add-zero, add-assoc}
 use native.Mathlib.Numerals.{add-one}
 use native.Mathlib.Omega.{arith}
-use lib.ListN.{
-  length,
-  getD,
-  take,
-  drop,
-  set,
-  take-append-drop,
-  length-append,
-  length-take,
-  length-drop,
-  length-set,
-  drop-of-length-le,
-}
+use lib.ListN.{length, getD, take, drop, set, take-append-drop, length-append, length-set, drop-of-length-le}
 use lib.Seq.{
   drop-cons,
   take-set-le,

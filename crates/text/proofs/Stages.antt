@@ -5,7 +5,7 @@ use Prim.Native.Nat.{ℕ, _+_, _≤_}
 use native.Mathlib.Omega.{arith}
 use lib.ListN.{length, drop, length-drop}
 use lib.Seq.{drop-drop}
-use Rattle.rules.specs.Text.{Front, value, wrong, number, lineValue}
+use Rattle.rules.specs.Text.{Front, wrong, number, lineValue}
 use Rattle.text.specs.declared.leaves.Match.the-variants.{Whole, Stopped}
 use Rattle.text.specs.declared.leaves.Found.{Found}
 use Rattle.text.specs.declared.leaves.Found.the-variants.{Value}

@@ -1,8 +1,4 @@
 -- The code's three parts are those of the rules.
-use mathlib.Core.Path.{_≡_}
-use mathlib.Core.Bool.{true}
-use Prim.Native.Nat.{ℕ, _*_, _≤_}
-use native.Mathlib.Omega.{arith}
 use Rattle.rules.specs.Text.{jobPart, arcPart, sectionPart}
 use Rattle.rules.specs.Text as rules
 use Rattle.laws.specs.Text.{Sound, jobs-sound, arcs-sound, sections-sound}

@@ -14,7 +14,7 @@ use rules::Refusal;
 
 // What judging a part comes to: how many rows it has, the place after it and the number of the line there; or a refusal.
 pub enum Judged {
-    Rows { count: u32, at: usize, line: u32 },
+    Rows(u32, usize, u32),
     Refused(Refusal),
 }
 
@@ -36,7 +36,7 @@ fn judge_rows(text: &[u8], part: Part, count: u32, from: usize, first: u32) -> J
         line += 1;
         i += 1;
     }
-    Judged::Rows { count, at, line }
+    Judged::Rows(count, at, line)
 }
 
 // Judges a part from the place `from` on, where line `line` starts.
@@ -63,27 +63,15 @@ pub fn judge(text: &[u8]) -> Reading
     let first = judge_part(text, Part::Jobs, 0, 1);
     match first {
         Judged::Refused(r) => Reading::Refused(r),
-        Judged::Rows {
-            count: jobs,
-            at,
-            line,
-        } => {
+        Judged::Rows(jobs, at, line) => {
             let second = judge_part(text, Part::Arcs, at, line);
             match second {
                 Judged::Refused(r) => Reading::Refused(r),
-                Judged::Rows {
-                    count: arcs,
-                    at,
-                    line,
-                } => {
+                Judged::Rows(arcs, at, line) => {
                     let third = judge_part(text, Part::Sections, at, line);
                     match third {
                         Judged::Refused(r) => Reading::Refused(r),
-                        Judged::Rows {
-                            count: sections,
-                            at,
-                            line,
-                        } => {
+                        Judged::Rows(sections, at, line) => {
                             if at < text.len() {
                                 return Reading::Refused(Refusal::Text(line));
                             }
