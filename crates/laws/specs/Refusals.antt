@@ -146,7 +146,7 @@ pub record RowsRight (t : Table) : Type 0 where
   pub arc-in : (a : ℕ) → a < arcCount t → ArcIn t a
   pub section-in : (s : ℕ) → s < sectionCount t → SectionIn t s
 
-job-says : (t : Table) (j : ℕ) → Says (JobIn t j → ⊥) (JobIn t j) (jobOut t j)
+pub job-says : (t : Table) (j : ℕ) → Says (JobIn t j → ⊥) (JobIn t j) (jobOut t j)
 unfolding jobOut
 job-says t j =
     says-map
@@ -158,7 +158,7 @@ job-says t j =
     (lt-says latest (release t j))
     (says-or (eq-says (cost t j) 0) (says-or (lt-says mostCost (cost t j)) (lt-says latest (deadline t j)))))
 
-arc-says : (t : Table) (a : ℕ) → Says (ArcIn t a → ⊥) (ArcIn t a) (arcOut t a)
+pub arc-says : (t : Table) (a : ℕ) → Says (ArcIn t a → ⊥) (ArcIn t a) (arcOut t a)
 unfolding arcOut
 arc-says t a =
     says-map
@@ -166,7 +166,7 @@ arc-says t a =
     (λ w. record { before-in = w .0; after-in = w .1 })
     (says-or (le-says (jobCount t) (before t a)) (le-says (jobCount t) (after t a)))
 
-section-says : (t : Table) (s : ℕ) → Says (SectionIn t s → ⊥) (SectionIn t s) (sectionOut t s)
+pub section-says : (t : Table) (s : ℕ) → Says (SectionIn t s → ⊥) (SectionIn t s) (sectionOut t s)
 unfolding sectionOut
 section-says t s =
     says-map

@@ -129,6 +129,11 @@ module _ (f g : ℕ → Bool) where
   count-ext zero same = refl
   count-ext (suc n) same = rw (count-ext n (λ k l. same k (omega arith)), same n (omega arith))
 
+  pub lowest-ext : (n : ℕ) → ((k : ℕ) → k < n → f k ≡ g k) → lowest f n ≡ lowest g n
+  unfolding lowest
+  lowest-ext zero same = refl
+  lowest-ext (suc n) same = rw (lowest-ext n (λ k l. same k (omega arith)), same n (omega arith))
+
 pub sum-ext : (f g : ℕ → ℕ) (n : ℕ) → ((k : ℕ) → k < n → f k ≡ g k) → sum f n ≡ sum g n
 unfolding sum
 sum-ext f g zero same = refl

@@ -1,0 +1,4 @@
+-- The table check with its modified times, and a plan handed in: the promises, and the laws that their proofs cite.
+
+pub mod Bounds
+pub mod Rounds

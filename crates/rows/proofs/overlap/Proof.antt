@@ -1,0 +1,84 @@
+use borrow.Author.Needs.{needs}
+use borrow.Author.Tests.{lt-ltb, le-ltb}
+use Rattle.rules.specs.Refusals.{overlap}
+use Rattle.rows.proofs.overlap.Statement.{statement}
+use Rattle.rows.proofs.overlap.Tie as tie
+
+mul-if1 : tie.Need-mul-if1
+mul-if1 c = search needs
+
+add-if1 : tie.Need-add-if1
+add-if1 c = search needs
+
+mul-if1-2 : tie.Need-mul-if1-2
+mul-if1-2 c = search needs
+
+shared-slice-read-if1 : tie.Need-shared-slice-read-if1
+shared-slice-read-if1 c = search needs
+
+mul-if1-3 : tie.Need-mul-if1-3
+mul-if1-3 c = search needs
+
+add-if1-2 : tie.Need-add-if1-2
+add-if1-2 c = search needs
+
+mul-if1-4 : tie.Need-mul-if1-4
+mul-if1-4 c = search needs
+
+shared-slice-read-if1-2 : tie.Need-shared-slice-read-if1-2
+shared-slice-read-if1-2 c = search needs
+
+returns : tie.Need-returns
+unfolding overlap
+returns c = simp (le-ltb _ _ (c .if1 .taken))
+
+mul-result : tie.Need-mul-result
+mul-result c = search needs
+
+add-result : tie.Need-add-result
+add-result c = search needs
+
+mul-result-2 : tie.Need-mul-result-2
+mul-result-2 c = search needs
+
+shared-slice-read-result : tie.Need-shared-slice-read-result
+shared-slice-read-result c = search needs
+
+mul-result-3 : tie.Need-mul-result-3
+mul-result-3 c = search needs
+
+add-result-2 : tie.Need-add-result-2
+add-result-2 c = search needs
+
+mul-result-4 : tie.Need-mul-result-4
+mul-result-4 c = search needs
+
+shared-slice-read-result-2 : tie.Need-shared-slice-read-result-2
+shared-slice-read-result-2 c = search needs
+
+returns-2 : tie.Need-returns-2
+unfolding overlap
+returns-2 c = simp (lt-ltb _ _ (c .before .before .if1 .left))
+
+pub overlap-spec : {M : Type 1} → statement M
+overlap-spec =
+    tie.close
+    (tie.spec
+    mul-if1
+    add-if1
+    mul-if1-2
+    shared-slice-read-if1
+    mul-if1-3
+    add-if1-2
+    mul-if1-4
+    shared-slice-read-if1-2
+    returns
+    mul-result
+    add-result
+    mul-result-2
+    shared-slice-read-result
+    mul-result-3
+    add-result-2
+    mul-result-4
+    shared-slice-read-result-2
+    returns-2)

@@ -1,0 +1,163 @@
+-- Laws for the code: what each stage finds, and that the first find is the answer.
+-- so many numbers are whole rows, `least` to `most` of them
+use mathlib.Core.Path.{_≡_, refl, sym, _∙_, ap}
+use mathlib.Core.Bool.{Bool, true, false, not, _&&_, _||_}
+use mathlib.Core.List.{List, [], _∷_, _++_, append-assoc}
+use mathlib.Core.Option.{Option, none, some}
+use Prim.Native.Nat.{ℕ, _/_, _%_, _≤_, _<_}
+use native.Mathlib.Omega.{arith}
+use lib.ListN.{length}
+use lib.Dec.{ltb, leb, eqb}
+use borrow.Author.Tests.{le-ltb, le-leb, lt-leb, ne-eqb}
+use Rattle.rules.specs.Rows.{any, lowest}
+use Rattle.rules.specs.Table.{Table, latest, mostCost, resources, jobCount, release, cost, deadline, arcCount, before, after, sectionCount, owner, resource, from, to}
+use Rattle.rules.specs.Refusals.{Fault, fault, firstOf, demand, atRow, countFaults, rowFaults, jobOut, arcOut, sectionOut, overlap, within, clash, clashes}
+use Rattle.laws.specs.Tests.{le-says, eq-says, says-and, yes-says}
+use Rattle.laws.specs.Rows.{any-from, any-end, lowest-is}
+use Rattle.laws.specs.Refusals.{AllNone, all-none, first-of-append, demand-none, RowsRight, rows-right}
+use Rattle.rows.specs.declared.Judged.{Judged}
+use Rattle.rows.specs.declared.Rule.{Rule}
+use Rattle.rows.specs.declared.Rule.the-variants.{Job, Arc, Section, Clash}
+use Rattle.rows.specs.Judged.{faultIn, valuesFault, clashesFault}
+
+unfoldable pub inRows : ℕ → ℕ → ℕ → ℕ → Bool
+inRows numbers width least most = eqb (numbers % width) 0 && (leb least (numbers / width) && leb (numbers / width) most)
+
+-- 01's number of a rule, the rows that it is judged on, and whether one breaks it
+abbrev pub numberUnder : Rule → ℕ
+numberUnder Job = 5
+numberUnder Arc = 6
+numberUnder Section = 7
+numberUnder Clash = 8
+
+abbrev pub rowsUnder : Table → Rule → ℕ
+rowsUnder t Job = jobCount t
+rowsUnder t Arc = arcCount t
+rowsUnder t Section = sectionCount t
+rowsUnder t Clash = sectionCount t
+
+abbrev pub broken : Table → Rule → ℕ → Bool
+broken t Job = jobOut t
+broken t Arc = arcOut t
+broken t Section = sectionOut t
+broken t Clash = clashes t
+
+abbrev pub stage : Table → Rule → Option Fault
+stage t rule = atRow (numberUnder rule) (lowest (broken t rule) (rowsUnder t rule))
+
+-- ---- one row
+
+-- the last test of a row, where those before it have passed
+pub job-last : (t : Table) (j : ℕ) → release t j ≤ latest → 1 ≤ cost t j → cost t j ≤ mostCost → ltb latest (deadline t j) ≡ jobOut t j
+unfolding jobOut
+job-last t j p q r = simp (le-ltb _ _ p, ne-eqb (cost t j) 0 (omega arith), le-ltb _ _ r)
+
+pub arc-last : (t : Table) (a : ℕ) → before t a < jobCount t → leb (jobCount t) (after t a) ≡ arcOut t a
+unfolding arcOut
+arc-last t a p = simp (lt-leb _ _ p)
+
+pub section-last : (t : Table) (s : ℕ) → owner t s < jobCount t → resource t s < resources → from t s < to t s
+    → ltb (cost t (owner t s)) (to t s) ≡ sectionOut t s
+unfolding sectionOut
+section-last t s p q r = simp (lt-leb _ _ p, lt-leb _ _ q, lt-leb _ _ r)
+
+-- the answers to its tests make up whether two sections clash
+pub clash-are : (t : Table) (k s : ℕ) {job shared resource-same inner outer : Bool}
+    → eqb (owner t k) (owner t s) ≡ job → overlap t k s ≡ shared → eqb (resource t k) (resource t s) ≡ resource-same
+    → within t k s ≡ inner → within t s k ≡ outer → (job && (shared && (resource-same || not (inner || outer)))) ≡ clash t k s
+unfolding clash
+clash-are t k s p q r u w = rw (← p, ← q, ← r, ← u, ← w)
+
+pub clashes-yes : (t : Table) (k s : ℕ) → k < s → clash t k s ≡ true → clashes t s ≡ true
+unfolding clashes
+clashes-yes t k s h e = any-from _ s k h e
+
+pub clashes-no : (t : Table) (k s : ℕ) → s ≤ k → any (λ i. clash t i s) k ≡ false → clashes t s ≡ false
+unfolding clashes
+clashes-no t k s h e = any-end _ k s h e
+
+-- ---- counts
+
+-- no least count: only the most is tested
+any-count : (numbers width most : ℕ) → (eqb (numbers % width) 0 && leb (numbers / width) most) ≡ inRows numbers width 0 most
+unfolding inRows
+any-count numbers width most = simp (le-leb 0 (numbers / width) (omega arith))
+
+-- the answers to the three tests make up what 2, 3 and 4 find
+pub counts-are : (t : Table) {a b c : Bool}
+    → inRows (length (t .jobs)) 3 1 64 ≡ a → inRows (length (t .arcs)) 2 0 256 ≡ b → inRows (length (t .sections)) 4 0 128 ≡ c
+    → firstOf (demand a 2 ∷ demand b 3 ∷ demand c 4 ∷ []) ≡ firstOf (countFaults t)
+unfolding countFaults
+counts-are t p q r = rw (any-count (length (t .arcs)) 2 256, any-count (length (t .sections)) 4 128, ← p, ← q, ← r) (unfold inRows in refl)
+
+-- ---- stages
+
+-- what a search from the lowest row up finds
+pub at-found : (number : ℕ) (f : ℕ → Bool) (n i : ℕ) → i < n → f i ≡ true → ((k : ℕ) → k < i → f k ≡ false)
+    → some (fault number i) ≡ atRow number (lowest f n)
+at-found number f n i h e below = ap (atRow number) (lowest-is f n (some i) (h, e, below))
+
+pub at-none : (number : ℕ) (f : ℕ → Bool) (n i : ℕ) → n ≤ i → ((k : ℕ) → k < i → f k ≡ false) → none ≡ atRow number (lowest f n)
+at-none number f n i h below = ap (atRow number) (lowest-is f n none (λ k l. below k (omega arith)))
+
+-- where the counts are right no rule has more than 256 rows
+pub few-rows : (t : Table) → firstOf (countFaults t) ≡ none → (rule : Rule) → rowsUnder t rule ≤ 256
+unfolding countFaults
+few-rows t e = go
+  where
+    h : AllNone (countFaults t)
+    h = all-none (countFaults t) e
+
+    few-sections : sectionCount t ≤ 256
+    few-sections =
+        let w = yes-says (says-and (eq-says (length (t .sections) % 4) 0) (le-says (sectionCount t) 128)) (demand-none _ 4 (h .1 .1 .0)) in
+        omega arith
+
+    go : (rule : Rule) → rowsUnder t rule ≤ 256
+    go Job =
+        let w = yes-says (says-and (eq-says (length (t .jobs) % 3) 0) (says-and (le-says 1 (jobCount t)) (le-says (jobCount t) 64))) (demand-none _ 2 (h .0)) in
+        omega arith
+    go Arc =
+        let w = yes-says (says-and (eq-says (length (t .arcs) % 2) 0) (le-says (arcCount t) 256)) (demand-none _ 3 (h .1 .0)) in
+        omega arith
+    go Section = few-sections
+    go Clash = few-sections
+
+-- what an answer that was looked at says of its stage
+pub told : {j x : Judged} {found : Option Fault} → faultIn j ≡ found → j ≡ x → found ≡ faultIn x
+told e w = sym e ∙ ap faultIn w
+
+-- the last stage answers for itself
+pub last-of : (found : Option Fault) → found ≡ firstOf (found ∷ [])
+last-of none = refl
+last-of (some f) = refl
+
+-- what the front finds is found first
+pub front : (xs ys : List (Option Fault)) → firstOf (firstOf xs ∷ ys) ≡ firstOf (xs ++ ys)
+front [] ys = refl
+front (none ∷ xs) ys = front xs ys
+front (some f ∷ xs) ys = refl
+
+-- the finds of the stages make up what 2 to 7 find, and 2 to 8
+pub values-are : (t : Table) {c j a s : Option Fault} → firstOf (countFaults t) ≡ c → stage t Job ≡ j → stage t Arc ≡ a → stage t Section ≡ s
+    → firstOf (c ∷ j ∷ a ∷ s ∷ []) ≡ valuesFault t
+unfolding valuesFault
+values-are t p q r u = (λ i. firstOf (sym p i ∷ sym q i ∷ sym r i ∷ sym u i ∷ [])) ∙ front (countFaults t) (rowFaults t)
+
+pub clashes-are : (t : Table) {v c : Option Fault} → valuesFault t ≡ v → stage t Clash ≡ c → firstOf (v ∷ c ∷ []) ≡ clashesFault t
+unfolding valuesFault clashesFault
+clashes-are t p q =
+    (λ i. firstOf (sym p i ∷ sym q i ∷ []))
+    ∙ front (countFaults t ++ rowFaults t) (stage t Clash ∷ [])
+    ∙ ap firstOf (append-assoc (countFaults t) (rowFaults t) (stage t Clash ∷ []))
+
+pub values-counts : (t : Table) → valuesFault t ≡ none → firstOf (countFaults t) ≡ none
+unfolding valuesFault
+values-counts t e = first-of-append (countFaults t) (rowFaults t) e .0
+
+-- what 2 to 8 leave holds what 2 to 7 ask
+pub clashes-rows : (t : Table) → clashesFault t ≡ none → RowsRight t
+unfolding clashesFault
+clashes-rows t e =
+    let later = stage t Clash ∷ [] in
+    rows-right t (first-of-append (countFaults t ++ rowFaults t) later (rw (append-assoc (countFaults t) (rowFaults t) later) e) .0)
