@@ -1,12 +1,11 @@
 -- What a plan within its bounds is known to be: the facts that the sums need.
-use mathlib.Core.Path.{_≡_, refl, sym, _∙_}
-use mathlib.Core.Bool.{true, _&&_}
+use mathlib.Core.Path.{_≡_, refl}
+use mathlib.Core.Bool.{true}
 use mathlib.Core.List.{List, _++_}
 use mathlib.Core.Option.{Option, none, some}
 use Prim.Native.Nat.{ℕ, _+_, _*_, _≤_, _<_}
 use native.Mathlib.Omega.{arith}
 use lib.ListN.{length}
-use lib.Dec.{leb, eqb}
 use Rattle.rules.specs.Rows.{all}
 use Rattle.rules.specs.Table.{Plan, latest, jobCount, cost, owner, modifiedRelease, modifiedDeadline}
 use Rattle.rules.specs.Refusals.{Fault, firstOf, countFaults, rowFaults, accepted, timesRight, planInBounds}
@@ -14,7 +13,6 @@ use Rattle.laws.specs.Tests.{bool-says, le-says, eq-says, says-and, yes-says, c
 use Rattle.laws.specs.Rows.{all-at}
 use Rattle.laws.specs.Refusals.{RowsRight, rows-right}
 use Rattle.plan.specs.Bounds.{planWith}
-use Rattle.density.specs.Multiple.{SpansIn}
 use Rattle.density.specs.Sums.{JobsIn, SectionsIn}
 
 pub record InBounds (p : Plan) : Type 0 where

@@ -1,11 +1,9 @@
 -- Divisors and multiples: the rules' `gcd` is the greatest common divisor, and `lcm` the least common multiple.
 use mathlib.Core.Path.{_≡_, refl, sym, _∙_, ap}
-use mathlib.Core.Bool.{Bool, true, false, cond}
 use Prim.Native.Nat.{ℕ, zero, suc, _+_, _*_, _/_, _%_, _-_, _≤_, _<_}
 use native.Mathlib.Nat.{div-add-mod', mul-div-cancel, mul-comm, mul-sub, mod-lt}
 use native.Mathlib.Omega.{arith}
-use lib.Dec.{eqb}
-use borrow.Author.Tests.{eq-eqb, ne-eqb}
+use borrow.Author.Tests.{ne-eqb}
 use Rattle.rules.specs.Density.{gcdBy, gcd, lcm}
 
 pub record Divides (d n : ℕ) : Type 0 where
@@ -96,9 +94,9 @@ by-greatest (suc n) a (suc b) h =
     rw (by-step n a (suc b) (omega arith)) (divisor-step a (suc b) _ (by-greatest n (suc b) (a % suc b) (omega arith)))
 
 -- "Euclid's algorithm by remainders" gives the greatest common divisor
-pub gcd-greatest : (a b : ℕ) → Gcd a b (gcd a b)
+pub gcd-is : (a b : ℕ) → Gcd a b (gcd a b)
 unfolding gcd
-gcd-greatest a b = by-greatest (suc b) a b (omega arith)
+gcd-is a b = by-greatest (suc b) a b (omega arith)
 
 -- ---- the least common multiple
 
@@ -139,9 +137,9 @@ multiple-nought a b g z G =
           record { times = 0; is = omega (arith, x .is, ap (λ (k : ℕ). x .times * k) p) };
     }
 
-pub lcm-least : (a b : ℕ) → Lcm a b (lcm a b)
+pub lcm-is : (a b : ℕ) → Lcm a b (lcm a b)
 unfolding lcm
-lcm-least a b = go (gcd a b) (gcd-greatest a b)
+lcm-is a b = go (gcd a b) (gcd-is a b)
   where
     go : (g : ℕ) → Gcd a b g → Lcm a b (a / g * b)
     go zero G = multiple-nought a b 0 refl G
@@ -173,13 +171,13 @@ pub quotient : (d n t : ℕ) → 0 < d → n ≡ t * d → n / d ≡ t
 quotient d n t h e = ap (λ (x : ℕ). x / d) e ∙ mul-div-cancel t h
 
 pub gcd-some : (a b : ℕ) → 0 < b → 0 < gcd a b
-gcd-some a b h = divisor-some h (gcd-greatest a b .right)
+gcd-some a b h = divisor-some h (gcd-is a b .right)
 
 -- the multiple of two numbers above 0 is above 0
 pub lcm-some : (a b : ℕ) → 0 < a → 0 < b → 0 < lcm a b
 lcm-some a b p q =
     divisor-some {n = a * b} (product a b p q)
-    (lcm-least a b .least (a * b) (record { times = b; is = mul-comm a b }) (record { times = a; is = refl }))
+    (lcm-is a b .least (a * b) (record { times = b; is = mul-comm a b }) (record { times = a; is = refl }))
   where
     product : (a b : ℕ) → 0 < a → 0 < b → 0 < a * b
     product zero b p q = absurd (omega arith)

@@ -1,13 +1,12 @@
 -- The first failing job as the code finds it: laws for a turn, and for the verdict.
-use mathlib.Core.Path.{_≡_, refl, sym, _∙_, ap}
+use mathlib.Core.Path.{_≡_, sym, _∙_}
 use mathlib.Core.Bool.{Bool, true, false}
 use mathlib.Core.List.{List}
 use mathlib.Core.Option.{Option, none, some}
-use Prim.Native.Nat.{ℕ, _/_, _≤_, _<_}
-use native.Mathlib.Omega.{arith}
-use Rattle.rules.specs.Rows.{better, first}
+use Prim.Native.Nat.{ℕ, _<_}
+use Rattle.rules.specs.Rows.{better}
 use Rattle.rules.specs.Density.{sortsBefore, fails}
-use Rattle.laws.specs.First.{Better, kept, opened, passed, stayed, better-is}
+use Rattle.laws.specs.First.{kept, opened, passed, stayed, better-is}
 use Rattle.density.specs.Lists.{ofTimes, ofBoth}
 use Rattle.density.specs.Sums.{same-order}
 use Rattle.density.specs.declared.failing.Found.{Found}

@@ -7,3 +7,5 @@ pub mod Sums
 pub mod Bounds
 pub mod Failing
 pub mod Promise
+pub mod Sorted
+pub mod Theorems

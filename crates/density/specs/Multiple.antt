@@ -1,5 +1,5 @@
 -- The common multiple of all relative deadlines, as the code finds it: stopped where it exceeds its limit.
-use mathlib.Core.Path.{_≡_, refl, sym, _∙_, ap}
+use mathlib.Core.Path.{_≡_, refl, _∙_}
 use mathlib.Core.List.{List}
 use Prim.Native.Nat.{ℕ, zero, suc, _+_, _*_, _/_, _≤_, _<_}
 use native.Mathlib.Nat.{le-div-iff-mul-le, div-lt-iff-lt-mul}
@@ -11,7 +11,7 @@ use Rattle.rules.specs.Table.{Plan, span}
 use Rattle.rules.specs.Density.{gcd, lcm, multipleTo, mostMultiple}
 use Rattle.plan.specs.Bounds.{planWith}
 use Rattle.density.specs.Lists.{ofTimes}
-use Rattle.density.specs.Divides.{Divides, Lcm, gcd-some, lcm-least, lcm-some, divides-le, divides-trans}
+use Rattle.density.specs.Divides.{Divides, Lcm, gcd-some, lcm-is, lcm-some, divides-le, divides-trans}
 use Rattle.density.specs.declared.multiple.Common.{Common}
 use Rattle.density.specs.declared.multiple.Common.the-variants.{Of, Over}
 
@@ -58,7 +58,7 @@ module _ (p : Plan) where
 
   multiple-suc : (n : ℕ) → Lcm (multipleTo p n) (span p n) (multipleTo p (suc n))
   unfolding multipleTo
-  multiple-suc n = lcm-least (multipleTo p n) (span p n)
+  multiple-suc n = lcm-is (multipleTo p n) (span p n)
 
   pub multiple-some : (n : ℕ) → ((j : ℕ) → j < n → 0 < span p j) → 0 < multipleTo p n
   unfolding multipleTo
@@ -78,10 +78,10 @@ module _ (p : Plan) where
   pub multiple-each : (n j : ℕ) → j < n → Divides (span p j) (multipleTo p n)
   multiple-each n j h = divides-trans (multiple-suc j .right) (multiple-part (suc j) n h)
 
-  pub multiple-least : (n m : ℕ) → ((j : ℕ) → j < n → Divides (span p j) m) → Divides (multipleTo p n) m
+  pub multiple-divides : (n m : ℕ) → ((j : ℕ) → j < n → Divides (span p j) m) → Divides (multipleTo p n) m
   unfolding multipleTo
-  multiple-least zero m h = record { times = m; is = omega arith }
-  multiple-least (suc n) m h = multiple-suc n .least m (multiple-least n m (λ j l. h j (omega arith))) (h n (omega arith))
+  multiple-divides zero m h = record { times = m; is = omega arith }
+  multiple-divides (suc n) m h = multiple-suc n .least m (multiple-divides n m (λ j l. h j (omega arith))) (h n (omega arith))
 
   -- so the loop may stop as soon as a partial multiple exceeds the limit
   pub multiple-stops : (k n : ℕ) → k ≤ n → ((j : ℕ) → j < n → 0 < span p j) → mostMultiple < multipleTo p k → mostMultiple < multipleTo p n

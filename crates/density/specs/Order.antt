@@ -1,13 +1,13 @@
 -- The order by relative deadline, ties by number: laws for the code, and that it is strict and total.
-use mathlib.Core.Path.{_≡_, refl, sym, _∙_, ap}
+use mathlib.Core.Path.{_≡_}
 use mathlib.Core.Logic.{_≢_, _⊎_, inl, inr, ⊎-elim}
-use mathlib.Core.Bool.{Bool, true, false, _&&_, _||_}
+use mathlib.Core.Bool.{true, false}
 use Prim.Native.Nat.{ℕ, _≤_, _<_}
 use native.Mathlib.Omega.{arith}
 use lib.Dec.{ltb, eqb}
 use Rattle.rules.specs.Table.{Plan, span}
 use Rattle.rules.specs.Density.{sortsBefore}
-use Rattle.laws.specs.Tests.{Says, so, not-so, lt-says, eq-says, says-map, says-and, says-or, yes-says, no-says, yes-of, no-of}
+use Rattle.laws.specs.Tests.{Says, lt-says, eq-says, says-map, says-and, says-or, yes-says, yes-of, no-of}
 use Rattle.laws.specs.First.{Order}
 
 module _ (p : Plan) where

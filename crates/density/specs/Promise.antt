@@ -6,23 +6,12 @@ use mathlib.Core.List.{List}
 use Prim.Native.Nat.{ℕ, _+_, _/_, _≤_, _<_}
 use native.Mathlib.Omega.{arith}
 use lib.ListN.{length}
-use lib.Dec.{leb, eqb}
+use lib.Dec.{eqb}
 use borrow.Author.Tests.{le-leb, lt-leb, ne-eqb}
 use Rattle.rules.specs.Rows.{count, first}
 use Rattle.rules.specs.Table.{Plan, jobCount}
 use Rattle.rules.specs.Refusals.{faultOf, Outcome, refused, gives, andThen, planInBounds}
-use Rattle.rules.specs.Density.{
-  sortsBefore,
-  placeOfJob,
-  placeOrYes,
-  fails,
-  failingPlace,
-  multipleTo,
-  multiple,
-  mostMultiple,
-  densityFault,
-  density,
-}
+use Rattle.rules.specs.Density.{sortsBefore, placeOfJob, placeOrYes, fails, failingPlace, multipleTo, multiple, mostMultiple, densityFault, density}
 use Rattle.rules.specs.declared.Refusal.the-variants.{Bounds, Multiple}
 use Rattle.plan.specs.Bounds.{planWith}
 use Rattle.density.specs.Lists.{ofTimes, ofBoth}

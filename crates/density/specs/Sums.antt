@@ -1,7 +1,7 @@
 -- The sums of the density test as the code makes them: what each job adds, and b by one pass for the ceilings and one for
 -- the longest section.
 use mathlib.Core.Path.{_≡_, refl, sym, _∙_, ap}
-use mathlib.Core.Logic.{_≢_, _⊎_, inl, inr, ⊎-elim}
+use mathlib.Core.Logic.{_≢_, _⊎_, ⊎-elim}
 use mathlib.Core.Bool.{Bool, true, false, cond, not, _&&_, _||_}
 use mathlib.Core.List.{List, []}
 use mathlib.Core.Option.{Option, none, some}
@@ -15,26 +15,12 @@ use lib.Seq.{getD-set-same, getD-set-other}
 use lib.Dec.{ltb, leb, eqb}
 use borrow.Author.Tests.{eq-eqb, ne-eqb}
 use Rattle.rules.specs.Rows.{any, sum, largest}
-use Rattle.rules.specs.Table.{
-  Plan,
-  resources,
-  mostJobs,
-  mostCost,
-  jobCount,
-  cost,
-  sectionCount,
-  owner,
-  resource,
-  from,
-  to,
-  ticksOf,
-  span,
-}
+use Rattle.rules.specs.Table.{Plan, resources, mostJobs, mostCost, cost, sectionCount, owner, resource, from, to, ticksOf, span}
 use Rattle.rules.specs.Tick.{tightest, spanOf, ceiling}
-use Rattle.rules.specs.Density.{sortsBefore, ceilingWithin, blocking, densitySum, fails, mostMultiple}
-use Rattle.laws.specs.Tests.{Says, so, not-so, tested, clash, lt-says, le-says, eq-says, says-and, yes-says, no-says, yes-of, no-of}
+use Rattle.rules.specs.Density.{sortsBefore, ceilingWithin, blocking, fails, mostMultiple}
+use Rattle.laws.specs.Tests.{Says, so, not-so, lt-says, le-says, eq-says, says-and, yes-says, no-says, yes-of, no-of}
 use Rattle.laws.specs.Rows.{any-says, any-more, largest-ext}
-use Rattle.laws.specs.Clears.{SectionOn, CeilingOf, no-section, smallest-span, ceiling-of}
+use Rattle.laws.specs.Clears.{CeilingOf, no-section, smallest-span, ceiling-of}
 use Rattle.plan.specs.Bounds.{planWith}
 use Rattle.density.specs.Lists.{ofTimes, ofJobs, ofSections, ofBoth}
 use Rattle.density.specs.Multiple.{SpansIn}
