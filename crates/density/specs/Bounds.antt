@@ -1,6 +1,6 @@
 -- What a plan within its bounds is known to be: the facts that the sums need.
-use mathlib.Core.Path.{_≡_, refl}
-use mathlib.Core.Bool.{true}
+use mathlib.Core.Path.{_≡_, refl, sym, _∙_}
+use mathlib.Core.Bool.{Bool, true}
 use mathlib.Core.List.{List, _++_}
 use mathlib.Core.Option.{Option, none, some}
 use Prim.Native.Nat.{ℕ, _+_, _*_, _≤_, _<_}
@@ -24,15 +24,15 @@ accepted-none : (o : Option Fault) → accepted o ≡ true → o ≡ none
 accepted-none none e = refl
 accepted-none (some f) e = clash e refl
 
-pub in-bounds : (p : Plan) → planInBounds p ≡ true → InBounds p
+pub in-bounds : (p : Plan) {b : Bool} → b ≡ planInBounds p → b ≡ true → InBounds p
 unfolding planInBounds timesRight
-in-bounds p e =
+in-bounds p q t =
     let w =
     yes-says
     (says-and
     (bool-says (accepted (firstOf (countFaults (p .table) ++ rowFaults (p .table)))))
     (says-and (eq-says (length (p .times)) (2 * jobCount (p .table))) (bool-says (all (timesRight p) (jobCount (p .table))))))
-    e in
+    (sym q ∙ t) in
     record {
       rows = rows-right (p .table) (accepted-none _ (w .0));
       pairs = w .1 .0;

@@ -17,6 +17,9 @@ use Rattle.plan.specs.Bounds.{planWith}
 use Rattle.density.specs.Lists.{ofTimes, ofBoth}
 use Rattle.density.specs.Multiple.{Tells, told-within, told-over, same-multiple}
 use Rattle.density.specs.Sums.{same-fails}
+use Rattle.density.specs.Failing.{asOption}
+use Rattle.density.specs.declared.failing.Found.{Found}
+use Rattle.density.specs.declared.failing.Found.the-variants.{Nothing, Job}
 use Rattle.density.specs.declared.Verdict.{Verdict}
 use Rattle.density.specs.declared.Verdict.the-variants.{Refused, Yes, No}
 use Rattle.density.specs.declared.multiple.Common.{Common}
@@ -43,15 +46,15 @@ pub record Answers (p : Plan) (v : Verdict) : Type 0 where
 
 -- ---- the verdict, from the first failing job
 
-module _ (p : Plan) (m : ℕ) where
-  pub said-yes : first (sortsBefore p) (fails p m) (jobCount (p .table)) ≡ none → said Yes ≡ gives (answerAt (failingPlace p m))
+module _ (p : Plan) (m : ℕ) (r : Found) (e : asOption r ≡ first (sortsBefore p) (fails p m) (jobCount (p .table))) where
+  pub said-yes : r ≡ Nothing → said Yes ≡ gives (answerAt (failingPlace p m))
   unfolding failingPlace
-  said-yes e = rw e
+  said-yes f = rw (sym e ∙ ap asOption f)
 
-  pub said-no : (j k : ℕ) → first (sortsBefore p) (fails p m) (jobCount (p .table)) ≡ some j
-      → k ≡ count (λ i. sortsBefore p i j) (jobCount (p .table)) → said (No (k + 1)) ≡ gives (answerAt (failingPlace p m))
+  pub said-no : (j k : ℕ) → r ≡ Job j → k ≡ count (λ i. sortsBefore p i j) (jobCount (p .table))
+      → said (No (k + 1)) ≡ gives (answerAt (failingPlace p m))
   unfolding failingPlace placeOfJob
-  said-no j k e q = rw (e, ← q, ne-eqb (k + 1) 0 (λ z. omega arith))
+  said-no j k f q = rw (sym e ∙ ap asOption f, ← q, ne-eqb (k + 1) 0 (λ z. omega arith))
 
 -- ---- the entry, each way out
 

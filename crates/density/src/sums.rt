@@ -76,8 +76,8 @@ fn reached(sections: &[u32], times: &[u32], d: Span) -> [bool; 16]
     let mut marks = [false; 16];
     let mut s = 0;
     while s < n {
-        let e = owner_span(sections, times, s);
-        if !d.below(e) {
+        let own = owner_span(sections, times, s);
+        if !d.below(own) {
             let q = wide(sections[4 * s + 1]);
             marks[q] = true;
         }

@@ -1,9 +1,8 @@
 -- Nothing found is a yes; a job found is a no at its place.
-use mathlib.Core.Path.{sym, _∙_, ap}
 use borrow.Author.Needs.{needs}
 use Rattle.rules.specs.Density.{sortsBefore}
 use Rattle.density.specs.Lists.{ofBoth}
-use Rattle.density.specs.Failing.{asOption, job-within}
+use Rattle.density.specs.Failing.{job-within}
 use Rattle.density.specs.Promise.{said-yes, said-no}
 use Rattle.density.proofs.judge.Statement.{statement}
 use Rattle.density.proofs.judge.Tie as tie
@@ -30,7 +29,7 @@ returns : tie.Need-returns
 returns c =
     let f = c .before .before in
     let a = f .before .before .before .before .args in
-    said-yes (ofBoth (a .jobs .now) (a .sections .now) (a .times .now)) (a .m) (sym (f .first-failing .ensures .1) ∙ ap asOption (c .enum-told .given .1))
+    said-yes (ofBoth (a .jobs .now) (a .sections .now) (a .times .now)) (a .m) _ (f .first-failing .ensures .1) (c .enum-told .given .1)
 
 returns-2 : tie.Need-returns-2
 unfolding sortsBefore
@@ -38,8 +37,8 @@ returns-2 c =
     let g = c .before .before in
     let f = g .before .before in
     let a = f .before .before .before .before .args in
-    said-no (ofBoth (a .jobs .now) (a .sections .now) (a .times .now)) (a .m) _ _
-    (sym (f .first-failing .ensures .1) ∙ ap asOption (g .found .given .1)) (c .before2 .ensures .0)
+    said-no (ofBoth (a .jobs .now) (a .sections .now) (a .times .now)) (a .m) _ (f .first-failing .ensures .1) _ _ (g .found .given .1)
+    (c .before2 .ensures .0)
 
 pub judge-spec : {M : Type 1} → statement M
 judge-spec =
