@@ -2,7 +2,7 @@
 use crate::order::sorts_before;
 use crate::sums;
 ghost use mathlib.Core.Path.{_≡_};
-ghost use Prim.Native.Nat.{_+_, _*_, _/_, _<_, _≤_};
+ghost use Prim.Native.Nat.{_/_, _<_, _≤_};
 ghost use lib.ListN.{length};
 ghost use Rattle.rules.specs.Rows.{better, first};
 ghost use Rattle.rules.specs.Density.{sortsBefore, fails, mostMultiple};

@@ -1,8 +1,7 @@
 // The least common multiple of all relative deadlines, by Euclid's algorithm.
 use crate::order::span_of;
 ghost use mathlib.Core.Path.{_≡_};
-ghost use Prim.Native.Nat.{_+_, _*_, _<_, _≤_};
-ghost use lib.ListN.{length};
+ghost use Prim.Native.Nat.{_*_, _<_};
 ghost use Rattle.rules.specs.Density as rules;
 ghost use Rattle.rules.specs.Density.{multipleTo};
 ghost use Rattle.density.specs.Lists.{ofTimes};

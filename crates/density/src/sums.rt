@@ -6,7 +6,7 @@ ghost use mathlib.Core.Path.{_≡_};
 ghost use Prim.Native.Nat.{_+_, _*_, _/_, _<_, _≤_};
 ghost use lib.ListN.{length};
 ghost use Rattle.rules.specs.Rows.{sum};
-ghost use Rattle.rules.specs.Table.{mostCost, sectionCount, owner, resource, span};
+ghost use Rattle.rules.specs.Table.{mostCost, owner, span};
 ghost use Rattle.rules.specs.Density as rules;
 ghost use Rattle.rules.specs.Density.{mostMultiple};
 ghost use Rattle.density.specs.Lists.{ofBoth, ofJobs, ofSections, ofTimes};
