@@ -1,0 +1,17 @@
+-- The code's lists as plans: a function's promise speaks of the plan of the lists that it reads, and leaves the rest empty.
+use mathlib.Core.List.{List, []}
+use Prim.Native.Nat.{ℕ}
+use Rattle.rules.specs.Table.{Plan}
+use Rattle.plan.specs.Bounds.{planWith}
+
+abbrev pub ofTimes : List ℕ → Plan
+ofTimes times = planWith [] [] [] times
+
+abbrev pub ofJobs : List ℕ → List ℕ → Plan
+ofJobs jobs times = planWith jobs [] [] times
+
+abbrev pub ofSections : List ℕ → List ℕ → Plan
+ofSections sections times = planWith [] [] sections times
+
+abbrev pub ofBoth : List ℕ → List ℕ → List ℕ → Plan
+ofBoth jobs sections times = planWith jobs [] sections times
