@@ -1,7 +1,7 @@
 // Prints what `plan` and `plan_in_bounds` answer for the cases on standard input: numbers in a fixed order, parted by
 // whatever is no digit. First a count of cases for `plan`, each its own number, the three lists and the length of the
-// lent list; then a count of cases for `plan_in_bounds`, each its own number and the four lists. A list is a count of
-// rows, the width of the row, the row, and then a count of further numbers and these.
+// lent list; then a count of cases for `plan_in_bounds`, each its own number and the four lists. A list is how many
+// numbers it has, and these.
 mod input;
 mod output;
 
@@ -21,8 +21,8 @@ fn answer(jobs: &[u32], arcs: &[u32], sections: &[u32], times: &mut [u32]) {
     let planned = plan::plan(jobs, arcs, sections, times);
     match planned {
         Planned::Refused(refusal) => {
-            output::count(b": refusal ", refusal.number() as u64);
-            output::count(b" place ", refusal.place() as u64);
+            output::count(b": refusal ", refusal.number());
+            output::count(b" place ", refusal.place());
             output::kept(times);
             output::say(b"\n");
         }
@@ -38,9 +38,9 @@ fn answer(jobs: &[u32], arcs: &[u32], sections: &[u32], times: &mut [u32]) {
 
 // A case for `plan` that starts at `at`; the answer is where the next one starts.
 fn plan_case(text: &[u8], at: usize) -> usize {
-    let mut jobs = [0u32; 300];
-    let mut arcs = [0u32; 600];
-    let mut sections = [0u32; 600];
+    let mut jobs = input::places();
+    let mut arcs = input::places();
+    let mut sections = input::places();
     let mut times = input::lent();
     let label = input::number(text, at);
     let j = input::list(text, label.next, &mut jobs);
@@ -51,7 +51,7 @@ fn plan_case(text: &[u8], at: usize) -> usize {
     let nj = j.length;
     let na = a.length;
     let ns = s.length;
-    output::count(b"", label.value as u64);
+    output::count(b"", label.value);
     answer(
         &jobs[..nj],
         &arcs[..na],
@@ -63,10 +63,10 @@ fn plan_case(text: &[u8], at: usize) -> usize {
 
 // A case for `plan_in_bounds`.
 fn bounds_case(text: &[u8], at: usize) -> usize {
-    let mut jobs = [0u32; 300];
-    let mut arcs = [0u32; 600];
-    let mut sections = [0u32; 600];
-    let mut times = [0u32; 160];
+    let mut jobs = input::places();
+    let mut arcs = input::places();
+    let mut sections = input::places();
+    let mut times = input::places();
     let label = input::number(text, at);
     let j = input::list(text, label.next, &mut jobs);
     let a = input::list(text, j.next, &mut arcs);
@@ -76,7 +76,7 @@ fn bounds_case(text: &[u8], at: usize) -> usize {
     let na = a.length;
     let ns = s.length;
     let nt = t.length;
-    output::count(b"", label.value as u64);
+    output::count(b"", label.value);
     bounds(&jobs[..nj], &arcs[..na], &sections[..ns], &times[..nt]);
     t.next
 }

@@ -17,9 +17,6 @@ slice-aggregate-count c = search needs
 number-requires : tie.Need-number-requires
 number-requires c κs = search needs
 
-cast-count : tie.Need-cast-count
-cast-count c = search needs
-
 count-requires : tie.Need-count-requires
 count-requires c κs = search needs
 
@@ -28,9 +25,6 @@ slice-aggregate-count-2 c = search needs
 
 place-requires : tie.Need-place-requires
 place-requires c κs = search needs
-
-cast-count-2 : tie.Need-cast-count-2
-cast-count-2 c = search needs
 
 count-requires-2 : tie.Need-count-requires-2
 count-requires-2 c κs = search needs
@@ -109,11 +103,9 @@ answer-spec =
     enum-known-planned
     slice-aggregate-count
     number-requires
-    cast-count
     count-requires
     slice-aggregate-count-2
     place-requires
-    cast-count-2
     count-requires-2
     kept-requires
     slice-aggregate-say

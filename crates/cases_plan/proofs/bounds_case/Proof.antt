@@ -5,6 +5,18 @@ use borrow.Author.Needs.{needs}
 use Rattle.cases_plan.proofs.bounds_case.Statement.{statement}
 use Rattle.cases_plan.proofs.bounds_case.Tie as tie
 
+places-requires : tie.Need-places-requires
+places-requires c κs = search needs
+
+places-requires-2 : tie.Need-places-requires-2
+places-requires-2 c κs = search needs
+
+places-requires-3 : tie.Need-places-requires-3
+places-requires-3 c κs = search needs
+
+places-requires-4 : tie.Need-places-requires-4
+places-requires-4 c κs = search needs
+
 number-requires : tie.Need-number-requires
 number-requires c κs = search needs
 
@@ -34,9 +46,6 @@ list-requires-4 c κs = search needs
 
 slice-aggregate-count : tie.Need-slice-aggregate-count
 slice-aggregate-count c = search needs
-
-cast-count : tie.Need-cast-count
-cast-count c = search needs
 
 count-requires : tie.Need-count-requires
 count-requires c κs = search needs
@@ -75,6 +84,10 @@ pub bounds-case-spec : {M : Type 1} → statement M
 bounds-case-spec =
     tie.close
     (tie.spec
+    places-requires
+    places-requires-2
+    places-requires-3
+    places-requires-4
     number-requires
     slice-aggregate-list
     list-requires
@@ -85,7 +98,6 @@ bounds-case-spec =
     slice-aggregate-list-4
     list-requires-4
     slice-aggregate-count
-    cast-count
     count-requires
     array-share-prefix-jobs
     slice-aggregate-bounds

@@ -5,6 +5,15 @@ use borrow.Author.Needs.{needs}
 use Rattle.cases_plan.proofs.plan_case.Statement.{statement}
 use Rattle.cases_plan.proofs.plan_case.Tie as tie
 
+places-requires : tie.Need-places-requires
+places-requires c κs = search needs
+
+places-requires-2 : tie.Need-places-requires-2
+places-requires-2 c κs = search needs
+
+places-requires-3 : tie.Need-places-requires-3
+places-requires-3 c κs = search needs
+
 lent-requires : tie.Need-lent-requires
 lent-requires c κs = search needs
 
@@ -37,9 +46,6 @@ at-most-requires c κs = search needs
 
 slice-aggregate-count : tie.Need-slice-aggregate-count
 slice-aggregate-count c = search needs
-
-cast-count : tie.Need-cast-count
-cast-count c = search needs
 
 count-requires : tie.Need-count-requires
 count-requires c κs = search needs
@@ -78,6 +84,9 @@ pub plan-case-spec : {M : Type 1} → statement M
 plan-case-spec =
     tie.close
     (tie.spec
+    places-requires
+    places-requires-2
+    places-requires-3
     lent-requires
     number-requires
     slice-aggregate-list
@@ -89,7 +98,6 @@ plan-case-spec =
     number-requires-2
     at-most-requires
     slice-aggregate-count
-    cast-count
     count-requires
     array-share-prefix-jobs
     slice-aggregate-answer

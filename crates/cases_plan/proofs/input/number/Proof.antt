@@ -23,12 +23,6 @@ shared-slice-read-digit c = search needs
 digit-requires : tie.Need-digit-requires Inv-loop μ-loop
 digit-requires c κs = search needs
 
-cast-t11 : tie.Need-cast-t11 Inv-loop μ-loop
-cast-t11 c = search needs
-
-returns : tie.Need-returns Inv-loop μ-loop
-returns c = search needs
-
 mul-value : tie.Need-mul-value Inv-loop μ-loop
 mul-value c = search needs
 
@@ -44,11 +38,11 @@ loop-less c = search needs
 loop-again : tie.Need-loop-again Inv-loop μ-loop
 loop-again c = search needs
 
-cast-t15 : tie.Need-cast-t15 Inv-loop μ-loop
-cast-t15 c = search needs
+cast-t13 : tie.Need-cast-t13 Inv-loop μ-loop
+cast-t13 c = search needs
 
-returns-2 : tie.Need-returns-2 Inv-loop μ-loop
-returns-2 c = search needs
+returns : tie.Need-returns Inv-loop μ-loop
+returns c = search needs
 
 pub number-spec : {M : Type 1} → statement M
 number-spec =
@@ -60,12 +54,10 @@ number-spec =
     loop-holds
     shared-slice-read-digit
     digit-requires
-    cast-t11
-    returns
     mul-value
     add-value
     add-i
     loop-less
     loop-again
-    cast-t15
-    returns-2)
+    cast-t13
+    returns)

@@ -34,17 +34,23 @@ loop-less c = search needs
 loop-again : tie.Need-loop-again Inv-loop μ-loop
 loop-again c = ⊎-elim (λ w. omega arith) (λ w. omega arith) (c .if1 .came)
 
-slice-aggregate-count : tie.Need-slice-aggregate-count Inv-loop μ-loop
-slice-aggregate-count c = search needs
+slice-aggregate-say : tie.Need-slice-aggregate-say Inv-loop μ-loop
+slice-aggregate-say c = search needs
 
-count-requires : tie.Need-count-requires Inv-loop μ-loop
-count-requires c κs = search needs
+say-requires : tie.Need-say-requires Inv-loop μ-loop
+say-requires c κs = search needs
 
-slice-aggregate-count-2 : tie.Need-slice-aggregate-count-2 Inv-loop μ-loop
-slice-aggregate-count-2 c = search needs
+print-decimal-requires : tie.Need-print-decimal-requires Inv-loop μ-loop
+print-decimal-requires c κs = search needs
 
-count-requires-2 : tie.Need-count-requires-2 Inv-loop μ-loop
-count-requires-2 c κs = search needs
+slice-aggregate-say-2 : tie.Need-slice-aggregate-say-2 Inv-loop μ-loop
+slice-aggregate-say-2 c = search needs
+
+say-requires-2 : tie.Need-say-requires-2 Inv-loop μ-loop
+say-requires-2 c κs = search needs
+
+print-decimal-requires-2 : tie.Need-print-decimal-requires-2 Inv-loop μ-loop
+print-decimal-requires-2 c κs = search needs
 
 returns : tie.Need-returns Inv-loop μ-loop
 returns c = search needs
@@ -62,8 +68,10 @@ kept-spec =
     add-i
     loop-less
     loop-again
-    slice-aggregate-count
-    count-requires
-    slice-aggregate-count-2
-    count-requires-2
+    slice-aggregate-say
+    say-requires
+    print-decimal-requires
+    slice-aggregate-say-2
+    say-requires-2
+    print-decimal-requires-2
     returns)
