@@ -89,3 +89,10 @@ says-same (so x) (so y) f g = refl
 says-same (so x) (not-so n) f g = absurd (n (f x))
 says-same (not-so n) (so y) f g = absurd (n (g y))
 says-same (not-so n) (not-so m) f g = refl
+
+-- two tests are equal where the facts of one exclude those of the other crosswise
+pub says-agree : {A B A₂ B₂ : Type 0} {a b : Bool} → Says A B a → Says A₂ B₂ b → (A → B₂ → ⊥) → (B → A₂ → ⊥) → a ≡ b
+says-agree (so x) (so y) f g = refl
+says-agree (so x) (not-so y) f g = absurd (f x y)
+says-agree (not-so x) (so y) f g = absurd (g x y)
+says-agree (not-so x) (not-so y) f g = refl

@@ -1,17 +1,17 @@
 -- A plan handed in: the code's lists as a plan, and the laws that its judgement cites.
 use mathlib.Core.Path.{_≡_, refl}
-use mathlib.Core.Bool.{Bool, false, _&&_}
+use mathlib.Core.Bool.{Bool, true, false, _&&_}
 use mathlib.Core.List.{List}
 use mathlib.Core.Option.{Option, none, some}
-use Prim.Native.Nat.{ℕ, _+_, _*_, _-_, _≤_, _<_}
+use Prim.Native.Nat.{ℕ, _+_, _*_, _-_, _≤_}
 use native.Mathlib.Omega.{arith}
 use lib.ListN.{length}
-use lib.Dec.{leb, eqb}
-use borrow.Author.Tests.{le-leb, eq-eqb, ne-eqb}
+use lib.Dec.{ltb, leb, eqb}
+use borrow.Author.Tests.{le-leb, eq-eqb, ne-eqb, ltb-true, ltb-false}
 use Rattle.rules.specs.Rows.{all}
 use Rattle.rules.specs.Table.{Plan, latest, jobCount, cost, modifiedRelease, modifiedDeadline}
 use Rattle.rules.specs.Refusals.{Fault, accepted, timesRight, planInBounds}
-use Rattle.laws.specs.Tests.{Says, so, not-so, le-says, says-and, no-of}
+use Rattle.laws.specs.Tests.{le-says, says-and, says-agree, no-of}
 use Rattle.rows.specs.Lists.{table}
 use Rattle.rows.specs.Judged.{valuesFault}
 
@@ -34,24 +34,23 @@ module _ (p : Plan) (j : ℕ) where
       (says-and (le-says (modifiedDeadline p j) latest) (le-says (modifiedRelease p j + cost (p .table) j) (modifiedDeadline p j))))
       (λ w. h (record { release-in = w .0; deadline-in = w .1 .0; window = w .1 .1 }))
 
+  pub times-crossed : ltb (modifiedDeadline p j) (modifiedRelease p j) ≡ true → timesRight p j ≡ false
+  times-crossed e =
+      let l = ltb-true (modifiedDeadline p j) (modifiedRelease p j) e in
+      times-no (λ h. omega (arith, h .window))
+
   -- the last test, where those before it have passed
-  pub times-last : modifiedRelease p j ≤ modifiedDeadline p j → modifiedDeadline p j ≤ latest
+  pub times-last : ltb (modifiedDeadline p j) (modifiedRelease p j) ≡ false → modifiedDeadline p j ≤ latest
       → leb (cost (p .table) j) (modifiedDeadline p j - modifiedRelease p j) ≡ timesRight p j
   unfolding timesRight
-  times-last o d =
+  times-last e d =
+      let o = ltb-false (modifiedDeadline p j) (modifiedRelease p j) e in
       simp (le-leb (modifiedRelease p j) latest (omega arith), le-leb _ _ d)
-      (go
+      (says-agree
       (le-says (cost (p .table) j) (modifiedDeadline p j - modifiedRelease p j))
-      (le-says (modifiedRelease p j + cost (p .table) j) (modifiedDeadline p j)))
-    where
-      go : {a b : Bool}
-          → Says (cost (p .table) j ≤ modifiedDeadline p j - modifiedRelease p j) (modifiedDeadline p j - modifiedRelease p j < cost (p .table) j) a
-          → Says (modifiedRelease p j + cost (p .table) j ≤ modifiedDeadline p j) (modifiedDeadline p j < modifiedRelease p j + cost (p .table) j) b
-          → a ≡ b
-      go (so x) (so y) = refl
-      go (so x) (not-so y) = absurd (omega arith)
-      go (not-so x) (so y) = absurd (omega arith)
-      go (not-so x) (not-so y) = refl
+      (le-says (modifiedRelease p j + cost (p .table) j) (modifiedDeadline p j))
+      (λ x y. omega arith)
+      (λ x y. omega arith))
 
 -- the three parts of the judgement, one after the other
 module _ (p : Plan) where

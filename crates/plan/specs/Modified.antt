@@ -12,7 +12,7 @@ use Rattle.rules.specs.Rows.{largest, smallest, lowest}
 use Rattle.rules.specs.Table.{latest, precedes}
 use Rattle.rules.specs.Times.{lift, releaseTo, liftedTo, newRelease, liftedDeadline, timesTo}
 use Rattle.rules.specs.Refusals.{atRow, tooShort}
-use Rattle.laws.specs.Tests.{Says, so, not-so, lt-says, yes-says, no-says, says-yes}
+use Rattle.laws.specs.Tests.{says-agree, lt-says, yes-says, no-says, says-yes}
 use Rattle.laws.specs.Rows.{largest-base, largest-at, largest-most, largest-ext, lowest-ext}
 use Rattle.laws.specs.Reach.{precedes-says}
 use Rattle.laws.specs.Refusals.{RowsRight, rows-none}
@@ -107,20 +107,11 @@ module _ (jobs arcs sections : List ℕ) (J : JobsIn jobs) (A : ArcsIn jobs arcs
     unfolding tooShort
     short-is j l =
         rw (← release-is j l, ← deadline-is j l)
-        (go
+        (says-agree
         (lt-says latest (getD releases j 0 + getD jobs (3 * j + 1) 0 + getD tails j 0))
-        (lt-says (lift + latest - getD tails j 0) (lift + getD releases j 0 + getD jobs (3 * j + 1) 0)))
-      where
-        go : {a b : Bool}
-            → Says (latest < getD releases j 0 + getD jobs (3 * j + 1) 0 + getD tails j 0)
-            (getD releases j 0 + getD jobs (3 * j + 1) 0 + getD tails j 0 ≤ latest) a
-            → Says (lift + latest - getD tails j 0 < lift + getD releases j 0 + getD jobs (3 * j + 1) 0)
-            (lift + getD releases j 0 + getD jobs (3 * j + 1) 0 ≤ lift + latest - getD tails j 0) b
-            → a ≡ b
-        go (so x) (so y) = refl
-        go (so x) (not-so y) = absurd (omega arith)
-        go (not-so x) (so y) = absurd (omega arith)
-        go (not-so x) (not-so y) = refl
+        (lt-says (lift + latest - getD tails j 0) (lift + getD releases j 0 + getD jobs (3 * j + 1) 0))
+        (λ x y. omega arith)
+        (λ x y. omega arith))
 
     pub window-is : windowFound jobs releases tails ≡ atRow 10 (lowest (tooShort (table jobs arcs sections)) (length jobs / 3))
     unfolding windowFound

@@ -8,7 +8,26 @@ use borrow.Author.Tests.{le-leb, lt-leb}
 use Rattle.rules.specs.Rows.{lowest}
 use Rattle.rules.specs.Table.{Table, jobCount, sectionCount}
 use Rattle.rules.specs.Times.{timesTo}
-use Rattle.rules.specs.Refusals.{Fault, fault, faultOf, Outcome, refused, gives, andThen, firstOf, unless, atRow, planFaults, clashes, onCycle, tooShort, checkFault, planOf, check, room}
+use Rattle.rules.specs.Refusals.{
+  Fault,
+  fault,
+  faultOf,
+  Outcome,
+  refused,
+  gives,
+  andThen,
+  firstOf,
+  unless,
+  atRow,
+  planFaults,
+  clashes,
+  onCycle,
+  tooShort,
+  checkFault,
+  planOf,
+  check,
+  room,
+}
 use Rattle.rules.specs.declared.Refusal.{Refusal}
 use Rattle.rules.specs.declared.Refusal.the-variants.{Room}
 use Rattle.laws.specs.Times.{times-length}

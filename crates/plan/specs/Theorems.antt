@@ -15,7 +15,15 @@ use Rattle.rules.specs.Refusals.{Fault, faultOf, gives, andThen, unless, demand
 use Rattle.laws.specs.Answers.{fault-settles}
 use Rattle.laws.specs.Rows.{largest-ext, smallest-ext}
 use Rattle.laws.specs.Reach.{Ancestor, ancestor-inside}
-use Rattle.laws.specs.Times.{releaseFrom, deadlineFrom, release-equation, deadline-equation, release-only, deadline-only, times-length}
+use Rattle.laws.specs.Times.{
+  releaseFrom,
+  deadlineFrom,
+  release-equation,
+  deadline-equation,
+  release-only,
+  deadline-only,
+  times-length,
+}
 use Rattle.laws.specs.Refusals.{Accepted, accepted-facts}
 use Rattle.laws.specs.Accepted.{arcs-inside, plan-release, plan-deadline, window, due, consistent, plan-in-bounds}
 use Rattle.plan.specs.declared.Planned.{Planned}

@@ -4,6 +4,7 @@ mod modified;
 use modified::Way;
 use rows::Judged;
 use rows::LATEST;
+use rules::Instant;
 use rules::Refusal;
 ghost use mathlib.Core.Path.{_≡_};
 ghost use mathlib.Core.List.{[]};
@@ -21,18 +22,19 @@ fn times_right(jobs: &[u32], times: &[u32], j: usize) -> bool
     requires { ⌜ (3 * j + 2 < length (now jobs)) × (2 * j + 1 < length (now times)) ⌝ }
     ensures { λ r. ⌜ r ≡ timesRight (planWith (now (jobs .entry)) [] [] (now (times .entry))) j ⌝ }
 {
-    let release = times[2 * j];
-    if release > LATEST {
+    let release = Instant(times[2 * j]);
+    if release.0 > LATEST {
         return false;
     }
-    let deadline = times[2 * j + 1];
-    if deadline > LATEST {
+    let deadline = Instant(times[2 * j + 1]);
+    if deadline.0 > LATEST {
         return false;
     }
-    if deadline < release {
+    if deadline.before(release) {
         return false;
     }
-    jobs[3 * j + 1] <= deadline - release
+    let window = deadline.since(release);
+    jobs[3 * j + 1] <= window.0
 }
 
 // Whether those of every job do.

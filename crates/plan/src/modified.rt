@@ -8,8 +8,10 @@ ghost use mathlib.Core.Path.{_≡_};
 ghost use mathlib.Core.List.{_++_};
 ghost use Prim.Native.Nat.{_+_, _*_, _/_, _<_, _≤_};
 ghost use lib.ListN.{length, getD, drop};
+ghost use Rattle.rules.specs.Table.{latest};
 ghost use Rattle.rows.specs.Judged.{faultIn};
-ghost use Rattle.plan.specs.Rounds.{JobsIn, ArcIn, ArcsIn, Low, Holds, Fit, sourceOf, targetOf, startOf, gainOf, raised, brought, broughtTo, roundTo, windowFound, pairsTo};
+ghost use Rattle.plan.specs.Rounds.{JobsIn, ArcIn, ArcsIn, Low, Holds, Fit};
+ghost use Rattle.plan.specs.Rounds.{sourceOf, targetOf, startOf, gainOf, raised, brought, broughtTo, roundTo, windowFound, pairsTo};
 
 // Releases go forward along the arcs, deadlines back.
 pub enum Way {
@@ -29,6 +31,7 @@ fn wide(x: u32) -> usize
     x as usize
 }
 
+// The ends of arc a.
 fn ends_of(arcs: &[u32], way: Way, a: usize) -> Ends
     requires { ⌜ 2 * a + 1 < length (now arcs) ⌝ }
     ensures { λ r. ⌜ (r .source ≡ sourceOf (now (arcs .entry)) way a) × (r .target ≡ targetOf (now (arcs .entry)) way a) ⌝ }
@@ -49,7 +52,7 @@ fn ends_of(arcs: &[u32], way: Way, a: usize) -> Ends
 
 // What a job has by itself: its own release, or the tail of its own deadline.
 fn start(jobs: &[u32], way: Way, j: usize) -> u32
-    requires { ⌜ (3 * j + 2 < length (now jobs)) × (getD (now jobs) (3 * j + 2) 0 ≤ 1000000) ⌝ }
+    requires { ⌜ (3 * j + 2 < length (now jobs)) × (getD (now jobs) (3 * j + 2) 0 ≤ latest) ⌝ }
     ensures { λ r. ⌜ r ≡ startOf (now (jobs .entry)) way j ⌝ }
 {
     match way {
@@ -58,7 +61,7 @@ fn start(jobs: &[u32], way: Way, j: usize) -> u32
     }
 }
 
-// What an arc from job i adds to what i has: nothing, or the cost of i.
+// What an arc from job i adds to what i has: nothing to a release; to a tail the cost of i, which is the successor there.
 fn gain(jobs: &[u32], way: Way, i: usize) -> u32
     requires { ⌜ 3 * i + 2 < length (now jobs) ⌝ }
     ensures { λ r. ⌜ r ≡ gainOf (now (jobs .entry)) way i ⌝ }

@@ -9,8 +9,40 @@ use lib.ListN.{length}
 use lib.Dec.{ltb, leb, eqb}
 use borrow.Author.Tests.{le-ltb, le-leb, lt-leb, ne-eqb}
 use Rattle.rules.specs.Rows.{any, lowest}
-use Rattle.rules.specs.Table.{Table, latest, mostCost, resources, jobCount, release, cost, deadline, arcCount, before, after, sectionCount, owner, resource, from, to}
-use Rattle.rules.specs.Refusals.{Fault, fault, firstOf, demand, atRow, countFaults, rowFaults, jobOut, arcOut, sectionOut, overlap, within, clash, clashes}
+use Rattle.rules.specs.Table.{
+  Table,
+  latest,
+  mostCost,
+  resources,
+  jobCount,
+  release,
+  cost,
+  deadline,
+  arcCount,
+  before,
+  after,
+  sectionCount,
+  owner,
+  resource,
+  from,
+  to,
+}
+use Rattle.rules.specs.Refusals.{
+  Fault,
+  fault,
+  firstOf,
+  demand,
+  atRow,
+  countFaults,
+  rowFaults,
+  jobOut,
+  arcOut,
+  sectionOut,
+  overlap,
+  within,
+  clash,
+  clashes,
+}
 use Rattle.laws.specs.Tests.{le-says, eq-says, says-and, yes-says}
 use Rattle.laws.specs.Rows.{any-from, any-end, lowest-is}
 use Rattle.laws.specs.Refusals.{AllNone, all-none, first-of-append, demand-none, RowsRight, rows-right}

@@ -25,7 +25,9 @@ lowest-on-cycle-requires c κs = cycles-ready _ (told (c .before .before .judge-
 
 returns-2 : tie.Need-returns-2
 returns-2 c = let v = c .before in
-    last-of _ ∙ cycles-are _ (told (v .before .before .judge-clashes .ensures) (v .enum-told2 .given .1)) (cycle-found _ _ _ ∙ sym (c .lowest-on-cycle .ensures))
+    last-of _ ∙ cycles-are _
+    (told (v .before .before .judge-clashes .ensures) (v .enum-told2 .given .1))
+    (cycle-found _ _ _ ∙ sym (c .lowest-on-cycle .ensures))
 
 pub judge-cycles-spec : {M : Type 1} → statement M
 judge-cycles-spec =

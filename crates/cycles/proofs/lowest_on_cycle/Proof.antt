@@ -38,7 +38,10 @@ cast-t14 c = search needs
 
 returns : tie.Need-returns Inv-loop μ-loop
 returns c = let l = c .before .before .before in
-    cycle-at _ _ (omega arith) (cycle-is _ _ _ _ _ (l .before .reached .ensures) (omega arith) (sym (c .if1 .taken) ∙ c .before .holds .ensures)) (l .loop .inv .1)
+    cycle-at _ _
+    (omega arith)
+    (cycle-is _ _ _ _ _ (l .before .reached .ensures) (omega arith) (sym (c .if1 .taken) ∙ c .before .holds .ensures))
+    (l .loop .inv .1)
 
 add-j : tie.Need-add-j Inv-loop μ-loop
 add-j c = search needs

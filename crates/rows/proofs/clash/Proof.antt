@@ -60,7 +60,11 @@ shared-slice-read-if3-2 c = search needs
 
 returns-3 : tie.Need-returns-3
 returns-3 c = let o = c .before .before .before .before in
-    clash-are _ _ _ (eq-eqb _ _ (o .before .if1 .left)) (sym (o .overlap .ensures) ∙ not-false _ (c .before .before .before .if2 .left)) (eq-eqb _ _ (c .if3 .taken)) refl refl
+    clash-are _ _ _
+    (eq-eqb _ _ (o .before .if1 .left))
+    (sym (o .overlap .ensures) ∙ not-false _ (c .before .before .before .if2 .left))
+    (eq-eqb _ _ (c .if3 .taken))
+    refl refl
 
 within-requires : tie.Need-within-requires
 within-requires c κs = search needs
@@ -68,7 +72,12 @@ within-requires c κs = search needs
 returns-4 : tie.Need-returns-4
 returns-4 c = let w = c .before in
     let o = w .before .before .before .before .before in
-    clash-are _ _ _ (eq-eqb _ _ (o .before .if1 .left)) (sym (o .overlap .ensures) ∙ not-false _ (w .before .before .before .before .if2 .left)) (ne-eqb _ _ (w .before .if3 .left)) (sym (w .within .ensures) ∙ c .if4 .taken) refl
+    clash-are _ _ _
+    (eq-eqb _ _ (o .before .if1 .left))
+    (sym (o .overlap .ensures) ∙ not-false _ (w .before .before .before .before .if2 .left))
+    (ne-eqb _ _ (w .before .if3 .left))
+    (sym (w .within .ensures) ∙ c .if4 .taken)
+    refl
 
 within-requires-2 : tie.Need-within-requires-2
 within-requires-2 c κs = search needs
@@ -76,7 +85,12 @@ within-requires-2 c κs = search needs
 returns-5 : tie.Need-returns-5
 returns-5 c = let w = c .before .before in
     let o = w .before .before .before .before .before in
-    clash-are _ _ _ (eq-eqb _ _ (o .before .if1 .left)) (sym (o .overlap .ensures) ∙ not-false _ (w .before .before .before .before .if2 .left)) (ne-eqb _ _ (w .before .if3 .left)) (sym (w .within .ensures) ∙ c .before .if4 .left) (sym (c .within2 .ensures))
+    clash-are _ _ _
+    (eq-eqb _ _ (o .before .if1 .left))
+    (sym (o .overlap .ensures) ∙ not-false _ (w .before .before .before .before .if2 .left))
+    (ne-eqb _ _ (w .before .if3 .left))
+    (sym (w .within .ensures) ∙ c .before .if4 .left)
+    (sym (c .within2 .ensures))
 
 pub clash-spec : {M : Type 1} → statement M
 clash-spec =

@@ -17,7 +17,10 @@ count-right-requires-2 c κs = search needs
 
 returns-2 : tie.Need-returns-2
 returns-2 c = let p = c .before .before .before in
-    counts-are _ (sym (p .count-right .ensures) ∙ not-false _ (c .before .before .if1 .left)) (sym (c .before .count-right2 .ensures) ∙ not-true _ (c .if2 .taken)) refl
+    counts-are _
+    (sym (p .count-right .ensures) ∙ not-false _ (c .before .before .if1 .left))
+    (sym (c .before .count-right2 .ensures) ∙ not-true _ (c .if2 .taken))
+    refl
 
 count-right-requires-3 : tie.Need-count-right-requires-3
 count-right-requires-3 c κs = search needs
@@ -25,12 +28,18 @@ count-right-requires-3 c κs = search needs
 returns-3 : tie.Need-returns-3
 returns-3 c = let q = c .before .before .before in
     let p = q .before .before in
-    counts-are _ (sym (p .count-right .ensures) ∙ not-false _ (q .before .if1 .left)) (sym (q .count-right2 .ensures) ∙ not-false _ (c .before .before .if2 .left)) (sym (c .before .count-right3 .ensures) ∙ not-true _ (c .if3 .taken))
+    counts-are _
+    (sym (p .count-right .ensures) ∙ not-false _ (q .before .if1 .left))
+    (sym (q .count-right2 .ensures) ∙ not-false _ (c .before .before .if2 .left))
+    (sym (c .before .count-right3 .ensures) ∙ not-true _ (c .if3 .taken))
 
 returns-4 : tie.Need-returns-4
 returns-4 c = let q = c .before .before .before in
     let p = q .before .before in
-    counts-are _ (sym (p .count-right .ensures) ∙ not-false _ (q .before .if1 .left)) (sym (q .count-right2 .ensures) ∙ not-false _ (c .before .before .if2 .left)) (sym (c .before .count-right3 .ensures) ∙ not-false _ (c .if3 .left))
+    counts-are _
+    (sym (p .count-right .ensures) ∙ not-false _ (q .before .if1 .left))
+    (sym (q .count-right2 .ensures) ∙ not-false _ (c .before .before .if2 .left))
+    (sym (c .before .count-right3 .ensures) ∙ not-false _ (c .if3 .left))
 
 pub counts-judged-spec : {M : Type 1} → statement M
 counts-judged-spec =
