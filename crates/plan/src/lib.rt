@@ -30,7 +30,7 @@ fn times_right(jobs: &[u32], times: &[u32], j: usize) -> bool
     if deadline.0 > LATEST {
         return false;
     }
-    if deadline.before(release) {
+    if deadline.earlier(release) {
         return false;
     }
     let window = deadline.since(release);

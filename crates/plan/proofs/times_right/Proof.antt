@@ -33,11 +33,11 @@ shared-slice-read-result-2 c = search needs
 returns-2 : tie.Need-returns-2
 returns-2 c = sym (times-no _ _ (λ h. omega arith))
 
-before-requires : tie.Need-before-requires
-before-requires c κs = search needs
+earlier-requires : tie.Need-earlier-requires
+earlier-requires c κs = search needs
 
 returns-3 : tie.Need-returns-3
-returns-3 c = sym (times-crossed _ _ (sym (c .before .before2 .ensures) ∙ c .if3 .taken))
+returns-3 c = sym (times-crossed _ _ (sym (c .before .earlier .ensures) ∙ c .if3 .taken))
 
 since-requires : tie.Need-since-requires
 since-requires c κs = search needs
@@ -56,7 +56,7 @@ shared-slice-read-result-3 c = search needs
 
 returns-4 : tie.Need-returns-4
 returns-4 c = let s = c .before .before in
-    rw (s .since .ensures) (times-last _ _ (sym (s .before .before .before2 .ensures) ∙ s .before .if3 .left) (omega arith))
+    rw (s .since .ensures) (times-last _ _ (sym (s .before .before .earlier .ensures) ∙ s .before .if3 .left) (omega arith))
 
 pub times-right-spec : {M : Type 1} → statement M
 times-right-spec =
@@ -71,7 +71,7 @@ times-right-spec =
     mul-result-4
     shared-slice-read-result-2
     returns-2
-    before-requires
+    earlier-requires
     returns-3
     since-requires
     mul-result-5
