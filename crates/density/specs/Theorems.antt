@@ -12,11 +12,10 @@ use lib.Dec.{ltb, eqb}
 use borrow.Author.Tests.{le-leb}
 use Rattle.rules.specs.Rows.{sum, first, lowest}
 use Rattle.rules.specs.Table.{Plan, jobCount, cost, span}
-use Rattle.rules.specs.Refusals.{Fault, faultOf, Outcome, refused, gives, planInBounds}
+use Rattle.rules.specs.Refusals.{Outcome, refused, gives, planInBounds}
 use Rattle.rules.specs.Density.{sortsBefore, placeOfJob, gcd, multiple, blocking, densitySum, fails, placeOrYes, failingPlace, mostMultiple, densityFault, density}
-use Rattle.rules.specs.declared.Refusal.{Refusal}
-use Rattle.rules.specs.declared.Refusal.the-variants.{Text, Jobs, Arcs, Sections, JobOut, ArcOut, SectionOut, Clash, Cycle, Window, Room, Bounds, Finished, Multiple}
 use Rattle.laws.specs.Tests.{tested, clash}
+use Rattle.laws.specs.Answers.{refusalOf, refusal-back}
 use Rattle.laws.specs.Rows.{sum-ext, lowest-is}
 use Rattle.laws.specs.First.{FirstOf, nobody, found, first-of}
 use Rattle.density.specs.Divides.{Divides, gcd-is, common, divisor-some, quotient}
@@ -30,45 +29,8 @@ use Rattle.density.specs.declared.Verdict.the-variants.{Refused, Yes, No
 
 -- ---- the answer is settled
 
--- a refusal is told by its number and place
-refusalOf : Fault → Refusal
-refusalOf f =
-    let n = f .number in
-    let k = f .place in
-    cond (eqb n 1) (Text k)
-    (cond (eqb n 2) (Jobs k)
-    (cond (eqb n 3) (Arcs k)
-    (cond (eqb n 4) (Sections k)
-    (cond (eqb n 5) (JobOut k)
-    (cond (eqb n 6) (ArcOut k)
-    (cond (eqb n 7) (SectionOut k)
-    (cond (eqb n 8) (Clash k)
-    (cond (eqb n 9) (Cycle k)
-    (cond (eqb n 10) (Window k)
-    (cond (eqb n 11) Room
-    (cond (eqb n 12) Bounds
-    (cond (eqb n 13) Finished Multiple))))))))))))
-
-refusal-back : (r : Refusal) → refusalOf (faultOf r) ≡ r
-unfolding refusalOf
-refusal-back (Text k) = refl
-refusal-back (Jobs k) = refl
-refusal-back (Arcs k) = refl
-refusal-back (Sections k) = refl
-refusal-back (JobOut k) = refl
-refusal-back (ArcOut k) = refl
-refusal-back (SectionOut k) = refl
-refusal-back (Clash k) = refl
-refusal-back (Cycle k) = refl
-refusal-back (Window k) = refl
-refusal-back Room = refl
-refusal-back Bounds = refl
-refusal-back Finished = refl
-refusal-back Multiple = refl
-
 -- a verdict is told by what it says
 verdictOf : Outcome Answer → Verdict
-unfolding refusalOf
 verdictOf (refused f) = Refused (refusalOf f)
 verdictOf (gives a) = cond (a .isYes) Yes (No (a .place))
 

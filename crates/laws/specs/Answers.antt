@@ -4,7 +4,7 @@ use mathlib.Core.List.{List, [], _∷_}
 use Prim.Native.Nat.{ℕ}
 use lib.ListN.{getD}
 use native.Mathlib.Omega.{arith}
-use Rattle.rules.specs.Refusals.{Fault, numberOf, placeOf, faultOf, Outcome, refused, gives}
+use Rattle.rules.specs.Refusals.{Fault, faultOf, Outcome, refused, gives}
 use Rattle.rules.specs.declared.Refusal.{Refusal}
 use Rattle.rules.specs.declared.Refusal.the-variants.{
   Text,
@@ -27,9 +27,10 @@ use Rattle.rules.specs.declared.Refusal.the-variants.{
 pub not-both : {A B : Type 0} {a : A} {f : Fault} {o : Outcome A} → o ≡ gives a → o ≡ refused f → B
 not-both p q = let z : _≡_ {A = ℕ} 0 1 = cc in absurd (omega arith)
 
--- the case with this number, at this place
-ofNumber : ℕ → ℕ → Refusal
-ofNumber n k =
+-- the case that a number and a place stand for
+unfoldable pub refusalOf : Fault → Refusal
+refusalOf f =
+    let k = f .place in
     getD
     (Room
     ∷ Text k
@@ -47,25 +48,25 @@ ofNumber n k =
     ∷ Finished
     ∷ Multiple
     ∷ [])
-    n
+    (f .number)
     Room
 
-of-own : (r : Refusal) → ofNumber (numberOf r) (placeOf r) ≡ r
-unfolding ofNumber
-of-own (Text line) = refl
-of-own (Jobs line) = refl
-of-own (Arcs line) = refl
-of-own (Sections line) = refl
-of-own (JobOut job) = refl
-of-own (ArcOut arc) = refl
-of-own (SectionOut section) = refl
-of-own (Clash section) = refl
-of-own (Cycle job) = refl
-of-own (Window job) = refl
-of-own Room = refl
-of-own Bounds = refl
-of-own Finished = refl
-of-own Multiple = refl
+pub refusal-back : (r : Refusal) → refusalOf (faultOf r) ≡ r
+unfolding refusalOf
+refusal-back (Text k) = refl
+refusal-back (Jobs k) = refl
+refusal-back (Arcs k) = refl
+refusal-back (Sections k) = refl
+refusal-back (JobOut k) = refl
+refusal-back (ArcOut k) = refl
+refusal-back (SectionOut k) = refl
+refusal-back (Clash k) = refl
+refusal-back (Cycle k) = refl
+refusal-back (Window k) = refl
+refusal-back Room = refl
+refusal-back Bounds = refl
+refusal-back Finished = refl
+refusal-back Multiple = refl
 
 pub fault-settles : (r s : Refusal) → faultOf r ≡ faultOf s → r ≡ s
-fault-settles r s e = sym (of-own r) ∙ ap (λ (f : Fault). ofNumber (f .number) (f .place)) e ∙ of-own s
+fault-settles r s e = sym (refusal-back r) ∙ ap refusalOf e ∙ refusal-back s
