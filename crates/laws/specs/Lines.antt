@@ -40,7 +40,42 @@ use Rattle.rules.specs.Text.{
 use Rattle.laws.specs.Tests.{clash}
 use Rattle.laws.specs.Digits.{LineFirst, line-bytes, line-back, line-is, ByTens, small, big, by-tens, one-digit, last-digit}
 use Rattle.laws.specs.Answers.{not-both}
-use Rattle.laws.specs.Text.{Words, words-none, words-more, lines-none as no-lines, lines-more, part-text, onLine, values-more, values-none, onCount, part-read, Sound, jobs-sound, arcs-sound, sections-sound, Counted, taken, part-back, PartFirst, counts-back, Right, text-of, read-parts, onJobs, onArcs, Way, in-jobs, in-arcs, in-sections, left-over, whole, way, TextOf, read-back}
+use Rattle.laws.specs.Text.{
+  Words,
+  words-none,
+  words-more,
+  lines-none as no-lines,
+  lines-more,
+  part-text,
+  onLine,
+  values-more,
+  values-none,
+  onCount,
+  part-read,
+  Sound,
+  jobs-sound,
+  arcs-sound,
+  sections-sound,
+  Counted,
+  taken,
+  part-back,
+  PartFirst,
+  counts-back,
+  Right,
+  text-of,
+  read-parts,
+  onJobs,
+  onArcs,
+  Way,
+  in-jobs,
+  in-arcs,
+  in-sections,
+  left-over,
+  whole,
+  way,
+  TextOf,
+  read-back,
+}
 
 -- ---- cutting a text into lines
 
@@ -99,7 +134,8 @@ plain-append : (a b : List ℕ) → plain a ≡ true → plain b ≡ true → pl
 plain-append [] b p q = q
 plain-append (x ∷ xs) b p q = by (eqb x lf) p (plain-append xs b)
   where
-    by : (e : Bool) → (not e && plain xs) ≡ true → (plain xs ≡ true → plain b ≡ true → plain (xs ++ b) ≡ true) → (not e && plain (xs ++ b)) ≡ true
+    by : (e : Bool) → (not e && plain xs) ≡ true
+        → (plain xs ≡ true → plain b ≡ true → plain (xs ++ b) ≡ true) → (not e && plain (xs ++ b)) ≡ true
     by true p ih = clash p refl
     by false p ih = ih p q
 
@@ -176,7 +212,8 @@ same-fewer {m} {n} {t} {u} h s =
     record { same = sym (take-take m n (linesOf t) h) ∙ ap (take m) (s .same) ∙ take-take m n (linesOf u) h }
 
 -- whole lines may be put before both, or taken off
-pub same-after : {n m : ℕ} {front rest rest′ : List ℕ} → Whole n front → SameLines m rest rest′ → SameLines (n + m) (front ++ rest) (front ++ rest′)
+pub same-after : {n m : ℕ} {front rest rest′ : List ℕ} → Whole n front → SameLines m rest rest′
+    → SameLines (n + m) (front ++ rest) (front ++ rest′)
 same-after {n} {m} {front} {rest} {rest′} w s =
     record {
       same = rw (w .apart rest, w .apart rest′, ← w .many, take-append-add (linesOf front) (linesOf rest) m, take-append-add (linesOf front) (linesOf rest′) m, s .same);
@@ -457,7 +494,9 @@ module _ (text : List ℕ) (f : Fault) where
       unfolding first-parts
       parts-text = rw (append-assoc, ← A .text) (J .text)
 
-      read-arcs : (x : List ℕ) → read (first-parts ++ x) ≡ onArcs (taken (j .values) (j .next) (partText arcPart (a .values) ++ x)) (taken (a .values) (a .next) x)
+      read-arcs : (x : List ℕ)
+          → read (first-parts ++ x)
+          ≡ onArcs (taken (j .values) (j .next) (partText arcPart (a .values) ++ x)) (taken (a .values) (a .next) x)
       unfolding first-parts
       read-arcs x =
           rw append-assoc

@@ -25,12 +25,14 @@ use Rattle.laws.specs.Text.{
 use Rattle.text.specs.Put.{put}
 use Rattle.text.specs.Passes.{takenOf, tableOf, Ready, Filled, TableReady, TableFilled}
 
-ready-of : {o : Outcome Taken} {k : Taken} {t out : List ℕ} {from : ℕ} → o ≡ gives k → from ≤ length t → length (k .values) ≤ length out
+ready-of : {o : Outcome Taken} {k : Taken} {t out : List ℕ} {from : ℕ} → o ≡ gives k → from ≤ length t
+    → length (k .values) ≤ length out
     → Ready o t from out
 ready-of e h l = record { within = h; given = rw e; room = rw e l }
 
 -- a part that stands at the place p of a text
-module _ {b : Part} (s : Sound b) {vs : List ℕ} (w : Words vs) (c : Counted b vs) (t rest : List ℕ) (p : ℕ) (e : drop p t ≡ partText b vs ++ rest) where
+module _ {b : Part} (s : Sound b) {vs : List ℕ} (w : Words vs) (c : Counted b vs) (t rest : List ℕ) (p : ℕ)
+    (e : drop p t ≡ partText b vs ++ rest) where
   part-there : readPart b 0 (drop p t) ≡ gives (taken vs (1 + length vs) rest)
   part-there = ap (readPart b 0) e ∙ part-back b s vs 0 rest w c
 

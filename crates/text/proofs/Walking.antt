@@ -69,7 +69,8 @@ module _ {b : Part} {n : ℕ} {t : List ℕ} {from first i at : ℕ} (w : Walkin
         w .left ∙ rw (m, values-more, ← q, e)
 
     module _ {k e : ℕ} (q : k ≡ b .head + 1 + i % b .width) where
-      pub stopped : Took (lineValue (key k) (drop at t)) (drop at t) (Stopped e) → readValues b n 0 first (drop from t) ≡ refused (fault 1 (first + i))
+      pub stopped : Took (lineValue (key k) (drop at t)) (drop at t) (Stopped e)
+          → readValues b n 0 first (drop from t) ≡ refused (fault 1 (first + i))
       stopped d = step q (d .says) ∙ before-refused (w .done) (fault 1 (first + i))
 
       pub walked : {v : ℕ} → Took (lineValue (key k) (drop at t)) (drop at t) (Value v e) → Walking b n t from first (i + 1) (at + e)

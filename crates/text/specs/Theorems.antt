@@ -11,7 +11,21 @@ use lib.Dec.{leb}
 use lib.ListN.{length, take, drop}
 use lib.Seq.{take-append-seam, take-at}
 use Rattle.rules.specs.Table.{Table, jobCount, arcCount, sectionCount}
-use Rattle.rules.specs.Refusals.{Fault, faultOf, numberOf, placeOf, Outcome, refused, gives, andThen, unless, demand, fault, firstOf, countFaults}
+use Rattle.rules.specs.Refusals.{
+  Fault,
+  faultOf,
+  numberOf,
+  placeOf,
+  Outcome,
+  refused,
+  gives,
+  andThen,
+  unless,
+  demand,
+  fault,
+  firstOf,
+  countFaults,
+}
 use Rattle.rules.specs.Text.{textOf}
 use Rattle.rules.specs.Text as rules
 use Rattle.rules.specs.declared.Refusal.{Refusal}
@@ -23,7 +37,18 @@ use Rattle.text.specs.declared.Reading.{Reading}
 use Rattle.text.specs.declared.Reading.the-variants.{Refused, Counts}
 use Rattle.text.specs.declared.Writing.{Writing}
 use Rattle.text.specs.declared.Writing.the-variants.{Bytes}
-use Rattle.text.specs.Promises.{roomFault, readInto, Rows, rowsOf, counted, readingSays, Reads, writeInto, writingSays, Writes}
+use Rattle.text.specs.Promises.{
+  roomFault,
+  readInto,
+  Rows,
+  rowsOf,
+  counted,
+  readingSays,
+  Reads,
+  writeInto,
+  writingSays,
+  Writes,
+}
 
 -- ---- nothing is left open
 
@@ -143,9 +168,12 @@ left-with {text} {jobs} {arcs} {sections} {jobs′} {arcs′} {sections′} {j} 
     let c = counts-is t (f .right .counts) in
     record {
       is-text = f;
-      jobs = front-left (t .jobs) jobs jobs′ (3 * j) (omega (arith, c .jobs .whole, ap (λ (x : Rows). x .jobs) r)) (p .jobs-left ∙ rw g);
-      arcs = front-left (t .arcs) arcs arcs′ (2 * a) (omega (arith, c .arcs .whole, ap (λ (x : Rows). x .arcs) r)) (p .arcs-left ∙ rw g);
-      sections = front-left (t .sections) sections sections′ (4 * s) (omega (arith, c .sections .whole, ap (λ (x : Rows). x .sections) r)) (p .sections-left ∙ rw g);
+      jobs = front-left (t .jobs) jobs jobs′ (3 * j)
+          (omega (arith, c .jobs .whole, ap (λ (x : Rows). x .jobs) r)) (p .jobs-left ∙ rw g);
+      arcs = front-left (t .arcs) arcs arcs′ (2 * a)
+          (omega (arith, c .arcs .whole, ap (λ (x : Rows). x .arcs) r)) (p .arcs-left ∙ rw g);
+      sections = front-left (t .sections) sections sections′ (4 * s)
+          (omega (arith, c .sections .whole, ap (λ (x : Rows). x .sections) r)) (p .sections-left ∙ rw g);
     }
 
 -- Any text that is read, given room: the lists that were read, written, are the same bytes.

@@ -34,7 +34,9 @@ match-bytes-requires : tie.Need-match-bytes-requires
 match-bytes-requires c κs = search needs
 
 returns : tie.Need-returns
-returns c = let s = c .before .before .before .before in rw (lent-key (s .args .k) (s .pre)) at (c .match-bytes .ensures)
+returns c =
+    let s = c .before .before .before .before in
+    rw (lent-key (s .args .k) (s .pre)) at (c .match-bytes .ensures)
 
 pub match-key-spec : {M : Type 1} → statement M
 match-key-spec =

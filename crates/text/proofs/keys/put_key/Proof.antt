@@ -30,13 +30,17 @@ part-put-bytes-end : tie.Need-part-put-bytes-end
 part-put-bytes-end c = omega (arith, key-at (c .before .before .before .args .k) (c .before .before .before .pre .0) .within)
 
 put-bytes-requires : tie.Need-put-bytes-requires
-put-bytes-requires c κs = let s = c .before .before .before .before in rw (lent-key (s .args .k) (s .pre .0)) (s .pre .1)
+put-bytes-requires c κs =
+    let s = c .before .before .before .before in
+    rw (lent-key (s .args .k) (s .pre .0)) (s .pre .1)
 
 same-length : tie.Need-same-length
 same-length c = search needs
 
 returns : tie.Need-returns
-returns c = let s = c .before .before .before .before .before .before .before in rw (lent-key (s .args .k) (s .pre .0)) at (c .before .before .put-bytes .ensures)
+returns c =
+    let s = c .before .before .before .before .before .before .before in
+    rw (lent-key (s .args .k) (s .pre .0)) at (c .before .before .put-bytes .ensures)
 
 pub put-key-spec : {M : Type 1} → statement M
 put-key-spec =

@@ -12,30 +12,29 @@ use Rattle.text.proofs.Stages.{in-line, key-stops, number-stops, line-e
 use Rattle.text.proofs.leaves.line_value.Statement.{statement}
 use Rattle.text.proofs.leaves.line_value.Tie as tie
 
--- the line, its key, and where that ends, in the arm in which it is there
+-- the line, and where its key ends, in the arm in which that is there
 abbrev line : tie.After-known-told2 → List ℕ
 line c = c .before .before .before .before .before .args .line .now
 
 abbrev place : tie.After-known-told2 → ℕ
 place c = c .before .matched2 .given .0 .0
 
+abbrev rest : tie.After-known-told2 → List ℕ
+rest c = drop (place c) (line c)
+
 key-there : (c : tie.After-known-told2) → Matched (key (c .before .before .before .before .before .args .k)) (line c) (Whole (place c))
 key-there c = rw (c .before .matched2 .given .1) at (c .before .before .before .match-key .ensures)
 
 -- what is found after it
 no-number : (c : tie.After-known-told3)
-    → let a = c .before .before .before .before .before in
-    Took (number (drop (place a) (line a))) (drop (place a) (line a)) (Stopped (c .before .found .given .0 .0))
-no-number c =
-    rw (c .before .found .given .1, c .before .before .before .before .after-equals .ensures)
-    at (c .before .before .before .read-number .ensures)
+    → let u = rest (c .before .before .before .before .before) in
+    Took (number u) u (Stopped (c .before .found .given .0 .0))
+no-number c = rw (c .before .found .given .1, c .before .before .before .before .after-equals .ensures) at (c .before .before .before .read-number .ensures)
 
 a-number : (c : tie.After-known-told4)
-    → let a = c .before .before .before .before .before in
-    Took (number (drop (place a) (line a))) (drop (place a) (line a)) (Value (c .before .found2 .given .0 .0) (c .before .found2 .given .0 .1 .0))
-a-number c =
-    rw (c .before .found2 .given .1, c .before .before .before .before .after-equals .ensures)
-    at (c .before .before .before .read-number .ensures)
+    → let u = rest (c .before .before .before .before .before) in
+    Took (number u) u (Value (c .before .found2 .given .0 .0) (c .before .found2 .given .0 .1 .0))
+a-number c = rw (c .before .found2 .given .1, c .before .before .before .before .after-equals .ensures) at (c .before .before .before .read-number .ensures)
 
 match-key-requires : tie.Need-match-key-requires
 match-key-requires c κs = search needs

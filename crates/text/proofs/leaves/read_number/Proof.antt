@@ -4,7 +4,8 @@ use native.Mathlib.Omega.{arith}
 use mathlib.Core.Path.{_≡_, sym, _∙_}
 use mathlib.Core.Bool.{true}
 use borrow.Author.Tests.{not-true, not-false}
-use Prim.Native.Nat.{_-_}
+use mathlib.Core.List.{List}
+use Prim.Native.Nat.{ℕ, _-_}
 use lib.ListN.{length, getD}
 use Rattle.rules.specs.Text.{isDigit}
 use Rattle.laws.specs.Digits.{low, high}
@@ -22,9 +23,13 @@ abbrev μ-loop : tie.MeasureT-loop
 first-digit : (c : tie.Else2 Inv-loop μ-loop) → isDigit (getD (c .before .before .before .before .before .args .digits .now) 0 0) ≡ true
 first-digit c = sym (c .before .is-digit .ensures) ∙ not-false _ (c .if2 .left)
 
-next-digit : (c : tie.Else3 Inv-loop μ-loop)
-    → isDigit (getD (c .before .before .before .before .before .before .before .before .before .before .before .args .digits .now) (c .before .before .before .before .loop .i) 0)
-    ≡ true
+abbrev at-loop : tie.Else3 Inv-loop μ-loop → tie.At-loop Inv-loop μ-loop
+at-loop c = c .before .before .before .before
+
+abbrev digits-of : tie.At-loop Inv-loop μ-loop → List ℕ
+digits-of c = c .before .before .before .before .before .before .before .args .digits .now
+
+next-digit : (c : tie.Else3 Inv-loop μ-loop) → isDigit (getD (digits-of (at-loop c)) (at-loop c .loop .i) 0) ≡ true
 next-digit c = sym (c .before .is-digit2 .ensures) ∙ not-false _ (c .if3 .left)
 
 returns : tie.Need-returns Inv-loop μ-loop
@@ -37,7 +42,8 @@ is-digit-requires : tie.Need-is-digit-requires Inv-loop μ-loop
 is-digit-requires c κs = search needs
 
 returns-2 : tie.Need-returns-2 Inv-loop μ-loop
-returns-2 c = no-digit _ (omega arith) (sym (c .before .is-digit .ensures) ∙ not-true _ (c .if2 .taken))
+returns-2 c =
+    no-digit _ (omega arith) (sym (c .before .is-digit .ensures) ∙ not-true _ (c .if2 .taken))
 
 sub-wide : tie.Need-sub-wide Inv-loop μ-loop
 sub-wide c = omega (arith, low _ (first-digit c))
@@ -58,10 +64,14 @@ cast-t17 : tie.Need-cast-t17 Inv-loop μ-loop
 cast-t17 c = search needs
 
 returns-3 : tie.Need-returns-3 Inv-loop μ-loop
-returns-3 c = other (c .before .before .before .before .loop .inv) (omega arith) (sym (c .before .is-digit2 .ensures) ∙ not-true _ (c .if3 .taken))
+returns-3 c =
+    other (c .before .before .before .before .loop .inv) (omega arith)
+    (sym (c .before .is-digit2 .ensures) ∙ not-true _ (c .if3 .taken))
 
 returns-4 : tie.Need-returns-4 Inv-loop μ-loop
-returns-4 c = leading (c .before .before .before .before .before .loop .inv) (omega arith) (next-digit (c .before)) (c .if4 .taken)
+returns-4 c =
+    let d = c .before in
+    leading (at-loop d .loop .inv) (omega arith) (next-digit d) (c .if4 .taken)
 
 mul-longer : tie.Need-mul-longer Inv-loop μ-loop
 mul-longer c = search needs
@@ -76,7 +86,9 @@ add-longer : tie.Need-add-longer Inv-loop μ-loop
 add-longer c = omega (arith, high _ (next-digit (c .before .before)))
 
 returns-5 : tie.Need-returns-5 Inv-loop μ-loop
-returns-5 c = too-large (c .before .before .before .before .before .before .before .loop .inv) (omega arith) (next-digit (c .before .before .before)) (c .before .before .if4 .left) (omega arith)
+returns-5 c =
+    let d = c .before .before .before in
+    too-large (at-loop d .loop .inv) (omega arith) (next-digit d) (c .before .before .if4 .left) (omega arith)
 
 add-i : tie.Need-add-i Inv-loop μ-loop
 add-i c = search needs
@@ -85,7 +97,10 @@ loop-less : tie.Need-loop-less Inv-loop μ-loop
 loop-less c = search needs
 
 loop-again : tie.Need-loop-again Inv-loop μ-loop
-loop-again c = rw (c .before .wide2 .ensures) (longer (c .before .before .before .before .before .before .before .loop .inv) (omega arith) (next-digit (c .before .before .before)) (c .before .before .if4 .left) (omega arith))
+loop-again c =
+    let d = c .before .before .before in
+    rw (c .before .wide2 .ensures)
+    (longer (at-loop d .loop .inv) (omega arith) (next-digit d) (c .before .before .if4 .left) (omega arith))
 
 cast-t20 : tie.Need-cast-t20 Inv-loop μ-loop
 cast-t20 c = search needs

@@ -8,10 +8,14 @@ fill-part-requires : tie.Need-fill-part-requires
 fill-part-requires c κs = jobs-ready (c .before .before .before .before .before .pre)
 
 fill-part-requires-2 : tie.Need-fill-part-requires-2
-fill-part-requires-2 c κs = arcs-ready (c .before .before .before .before .before .before .before .before .before .pre) (c .before .before .before .fill-part .ensures)
+fill-part-requires-2 c κs =
+    arcs-ready (c .before .before .before .before .before .before .before .before .before .pre) (c .before .before .before .fill-part .ensures)
 
 fill-part-requires-3 : tie.Need-fill-part-requires-3
-fill-part-requires-3 c κs = sections-ready (c .before .before .before .before .before .before .before .before .before .before .before .before .before .pre) (c .before .before .before .before .before .before .before .fill-part .ensures) (c .before .before .before .fill-part2 .ensures)
+fill-part-requires-3 c κs =
+    let a = c .before .before .before in
+    let j = a .before .before .before .before in
+    sections-ready (j .before .before .before .before .before .before .pre) (j .fill-part .ensures) (a .fill-part2 .ensures)
 
 same-length : tie.Need-same-length
 same-length c = search needs
@@ -23,7 +27,11 @@ same-length-3 : tie.Need-same-length-3
 same-length-3 c = search needs
 
 returns : tie.Need-returns
-returns c = table-filled (c .before .before .before .before .before .before .before .before .before .before .before .before .before .before .before .before .pre) (c .before .before .before .before .before .before .before .before .before .before .fill-part .ensures) (c .before .before .before .before .before .before .fill-part2 .ensures) (c .before .before .fill-part3 .ensures)
+returns c =
+    let s = c .before .before in
+    let a = s .before .before .before .before in
+    let j = a .before .before .before .before in
+    table-filled (j .before .before .before .before .before .before .pre) (j .fill-part .ensures) (a .fill-part2 .ensures) (s .fill-part3 .ensures)
 
 pub fill-spec : {M : Type 1} → statement M
 fill-spec =

@@ -19,16 +19,18 @@ Inv-loop text part n from out₀ at₀ i₀ out at i = Filling (partOf part) n t
 abbrev μ-loop : tie.MeasureT-loop
 μ-loop text part n from out₀ at₀ i₀ out at i = n - i
 
--- the value that is found at the cursor
-abbrev text : tie.After-known-told Inv-loop μ-loop → List ℕ
-text c = c .before .before .before .before .before .before .before .before .before .before .args .text .now
+-- the loop and the function's entry, from the arm in which a value is found
+abbrev at-loop : tie.After-known-told Inv-loop μ-loop → tie.At-loop Inv-loop μ-loop
+at-loop c = c .before .before .before .before .before .before .before
 
-abbrev place : tie.After-known-told Inv-loop μ-loop → ℕ
-place c = c .before .before .before .before .before .before .before .loop .at
+abbrev rest : tie.After-known-told Inv-loop μ-loop → List ℕ
+rest c = drop (at-loop c .loop .at) (c .before .before .before .before .before .before .before .before .before .before .args .text .now)
 
 found-value : (c : tie.After-known-told Inv-loop μ-loop)
-    → Took (lineValue (key (c .before .before .before .before .key-at .result)) (drop (place c) (text c))) (drop (place c) (text c)) (Value (c .before .found .given .0 .0) (c .before .found .given .0 .1 .0))
-found-value c = line-at (text c) (place c) (c .before .before .before .before .key-at .result) (c .before .before .before .line-value .ensures) (c .before .found .given .1)
+    → Took (lineValue (key (c .before .before .before .before .key-at .result)) (rest c)) (rest c) (Value (c .before .found .given .0 .0) (c .before .found .given .0 .1 .0))
+found-value c =
+    line-at (c .before .before .before .before .before .before .before .before .before .before .args .text .now) (at-loop c .loop .at) (c .before .before .before .before .key-at .result)
+    (c .before .before .before .line-value .ensures) (c .before .found .given .1)
 
 loop-holds : tie.Need-loop-holds Inv-loop μ-loop
 loop-holds c = ready _ _ _ _ _ (c .before .before .pre)
@@ -58,7 +60,11 @@ same-length : tie.Need-same-length Inv-loop μ-loop
 same-length c = search needs
 
 returns : tie.Need-returns Inv-loop μ-loop
-returns c = goes-on (c .before .before .before .before .before .before .loop .inv) (omega arith) (c .before .before .before .key-at .ensures .0) (line-at (c .before .before .before .before .before .before .before .before .before .args .text .now) (c .before .before .before .before .before .before .loop .at) (c .before .before .before .key-at .result) (c .before .before .line-value .ensures) (c .enum-told .given .1))
+returns c =
+    let l = c .before .before .before .before .before .before in
+    goes-on (l .loop .inv) (omega arith) (c .before .before .before .key-at .ensures .0)
+    (line-at (c .before .before .before .before .before .before .before .before .before .args .text .now) (l .loop .at) (c .before .before .before .key-at .result)
+    (c .before .before .line-value .ensures) (c .enum-told .given .1))
 
 mul-out : tie.Need-mul-out Inv-loop μ-loop
 mul-out c = search needs
@@ -67,7 +73,8 @@ slice-write-out : tie.Need-slice-write-out Inv-loop μ-loop
 slice-write-out c = search needs
 
 add-at : tie.Need-add-at Inv-loop μ-loop
-add-at c = omega (arith, length-drop (place c) (text c), found-value c .within)
+add-at c =
+    omega (arith, length-drop (at-loop c .loop .at) (c .before .before .before .before .before .before .before .before .before .before .args .text .now), found-value c .within)
 
 add-i : tie.Need-add-i Inv-loop μ-loop
 add-i c = search needs
@@ -76,7 +83,8 @@ loop-less : tie.Need-loop-less Inv-loop μ-loop
 loop-less c = search needs
 
 loop-again : tie.Need-loop-again Inv-loop μ-loop
-loop-again c = store (c .before .before .before .before .before .before .before .loop .inv) (omega arith) (c .before .before .before .before .key-at .ensures .0) (found-value c)
+loop-again c =
+    store (at-loop c .loop .inv) (omega arith) (c .before .before .before .before .key-at .ensures .0) (found-value c)
 
 same-length-2 : tie.Need-same-length-2 Inv-loop μ-loop
 same-length-2 c = search needs

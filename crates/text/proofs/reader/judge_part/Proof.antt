@@ -2,7 +2,8 @@
 use borrow.Author.Needs.{needs}
 use mathlib.Core.Path.{_≡_, sym, _∙_, ap}
 use mathlib.Core.Bool.{true}
-use Prim.Native.Nat.{_+_, _≤_}
+use Prim.Native.Nat.{ℕ, _+_, _≤_}
+use mathlib.Core.List.{List}
 use native.Mathlib.Omega.{arith}
 use borrow.Author.Tests.{not-true, not-false}
 use lib.ListN.{length, drop}
@@ -25,19 +26,26 @@ part-line-value-start c = search needs
 part-line-value-end : tie.Need-part-line-value-end
 part-line-value-end c = search needs
 
--- the count that is found, that it is right, and that its line lies in the text
+-- the function's entry, and the count that is found
+abbrev start : tie.After-known-told → tie.Start
+start c = c .before .before .before .before .before .before .before
+
+abbrev rest : tie.After-known-told → List ℕ
+rest c = drop (start c .args .from) (start c .args .text .now)
+
 count : (c : tie.After-known-told)
-    → let a = c .before .before .before .before .before .before .before .args in
-    Took (lineValue (key (c .before .before .before .before .head .result)) (drop (a .from) (a .text .now))) (drop (a .from) (a .text .now)) (Value (c .before .found .given .0 .0) (c .before .found .given .0 .1 .0))
-count c = let a = c .before .before .before .before .before .before .before .args in line-at (a .text .now) (a .from) (c .before .before .before .before .head .result) (c .before .before .before .line-value .ensures) (c .before .found .given .1)
+    → Took (lineValue (key (c .before .before .before .before .head .result)) (rest c)) (rest c) (Value (c .before .found .given .0 .0) (c .before .found .given .0 .1 .0))
+count c =
+    let a = start c .args in
+    line-at (a .text .now) (a .from) (c .before .before .before .before .head .result) (c .before .before .before .line-value .ensures) (c .before .found .given .1)
 
-right : (c : tie.Else1) → partOf (c .before .before .before .before .before .before .before .before .before .args .part) .right (c .before .before .before .found .given .0 .0) ≡ true
-right c = sym (c .before .right .ensures) ∙ not-false _ (c .if1 .left)
-
-in-text : (c : tie.Else1) → c .before .before .before .before .before .before .before .before .before .args .from + c .before .before .before .found .given .0 .1 .0 ≤ length (c .before .before .before .before .before .before .before .before .before .args .text .now)
+in-text : (c : tie.After-known-told) → start c .args .from + c .before .found .given .0 .1 .0 ≤ length (start c .args .text .now)
 in-text c =
-    let a = c .before .before .before .before .before .before .before .before .before .args in
-    count-within (partOf (a .part)) (c .before .before .before .before .before .before .head .ensures .0) (a .text .now) (a .from) 0 (count (c .before .before)) (omega arith)
+    let a = start c .args in
+    count-within (partOf (a .part)) (c .before .before .before .before .head .ensures .0) (a .text .now) (a .from) 0 (count c) (omega arith)
+
+right : (c : tie.Else1) → let k = c .before .before in partOf (start k .args .part) .right (k .before .found .given .0 .0) ≡ true
+right c = sym (c .before .right .ensures) ∙ not-false _ (c .if1 .left)
 
 head-requires : tie.Need-head-requires
 head-requires c κs = search needs
@@ -61,22 +69,38 @@ refusal-requires : tie.Need-refusal-requires
 refusal-requires c κs = search needs
 
 returns : tie.Need-returns
-returns c = let a = c .before .before .before .before .before .before .before .before .before .before .args in part-wrong (partOf (a .part)) (c .before .before .before .before .before .before .before .head .ensures .0) (a .text .now) (a .from) (a .line) (count (c .before .before .before)) (sym (c .before .before .right .ensures) ∙ not-true _ (c .before .if1 .taken)) ∙ ap refused (sym (c .refusal .ensures))
+returns c =
+    let k = c .before .before .before in
+    let a = start k .args in
+    part-wrong (partOf (a .part)) (k .before .before .before .before .head .ensures .0) (a .text .now) (a .from) (a .line) (count k)
+    (sym (c .before .before .right .ensures) ∙ not-true _ (c .before .if1 .taken))
+    ∙ ap refused (sym (c .refusal .ensures))
 
 add-judge-rows : tie.Need-add-judge-rows
-add-judge-rows c = omega (arith, in-text c)
+add-judge-rows c =
+    omega (arith, in-text (c .before .before))
 
 add-judge-rows-2 : tie.Need-add-judge-rows-2
 add-judge-rows-2 c = search needs
 
 judge-rows-requires : tie.Need-judge-rows-requires
-judge-rows-requires c κs = (in-text c, few-rows (c .before .before .before .before .before .before .before .before .before .args .part) _ (right c), omega arith)
+judge-rows-requires c κs =
+    let k = c .before .before in
+    (in-text k, few-rows (start k .args .part) _ (right c), omega arith)
 
 returns-2 : tie.Need-returns-2
-returns-2 c = let a = c .before .before .before .before .before .before .args in part-stops (partOf (a .part)) (c .before .before .before .head .ensures .0) (a .text .now) (a .from) (a .line) (line-at (a .text .now) (a .from) (c .before .before .before .head .result) (c .before .before .line-value .ensures) (c .enum-told .given .1))
+returns-2 c =
+    let a = c .before .before .before .before .before .before .args in
+    let h = c .before .before .before .head in
+    part-stops (partOf (a .part)) (h .ensures .0) (a .text .now) (a .from) (a .line)
+    (line-at (a .text .now) (a .from) (h .result) (c .before .before .line-value .ensures) (c .enum-told .given .1))
 
 returns-3 : tie.Need-returns-3
-returns-3 c = let a = c .before .before .before .before .before .before .before .before .before .before .args in rw (part-rows (partOf (a .part)) (c .before .before .before .before .before .before .before .head .ensures .0) (a .text .now) (a .from) (a .line) (count (c .before .before .before)) (right (c .before))) (c .judge-rows .ensures)
+returns-3 c =
+    let k = c .before .before .before in
+    let a = start k .args in
+    rw (part-rows (partOf (a .part)) (k .before .before .before .before .head .ensures .0) (a .text .now) (a .from) (a .line) (count k) (right (c .before)))
+    (c .judge-rows .ensures)
 
 pub judge-part-spec : {M : Type 1} → statement M
 judge-part-spec =

@@ -15,21 +15,28 @@ use Rattle.text.proofs.reader.judge_rows.Statement.{statement}
 use Rattle.text.proofs.reader.judge_rows.Tie as tie
 
 abbrev Inv-loop : tie.InvT-loop
-Inv-loop text part count from first n at₀ line₀ i₀ at line i = (n ≡ count * partOf part .width) × (n ≤ 1024) × (first ≤ 4096) × (line ≡ first + i) × Walking (partOf part) n text from first i at
+Inv-loop text part count from first n at₀ line₀ i₀ at line i =
+    (n ≡ count * partOf part .width)
+    × (n ≤ 1024)
+    × (first ≤ 4096)
+    × (line ≡ first + i)
+    × Walking (partOf part) n text from first i at
 
 abbrev μ-loop : tie.MeasureT-loop
 μ-loop text part count from first n at₀ line₀ i₀ at line i = n - i
 
--- the value that is found at the cursor
-abbrev text : tie.After-known-told Inv-loop μ-loop → List ℕ
-text c = c .before .before .before .before .before .before .before .before .before .before .args .text .now
+-- the loop and the function's entry, from the arm in which a value is found
+abbrev at-loop : tie.After-known-told Inv-loop μ-loop → tie.At-loop Inv-loop μ-loop
+at-loop c = c .before .before .before .before .before .before .before
 
-abbrev place : tie.After-known-told Inv-loop μ-loop → ℕ
-place c = c .before .before .before .before .before .before .before .loop .at
+abbrev rest : tie.After-known-told Inv-loop μ-loop → List ℕ
+rest c = drop (at-loop c .loop .at) (c .before .before .before .before .before .before .before .before .before .before .args .text .now)
 
 found-value : (c : tie.After-known-told Inv-loop μ-loop)
-    → Took (lineValue (key (c .before .before .before .before .key-at .result)) (drop (place c) (text c))) (drop (place c) (text c)) (Value (c .before .found .given .0 .0) (c .before .found .given .0 .1 .0))
-found-value c = line-at (text c) (place c) (c .before .before .before .before .key-at .result) (c .before .before .before .line-value .ensures) (c .before .found .given .1)
+    → Took (lineValue (key (c .before .before .before .before .key-at .result)) (rest c)) (rest c) (Value (c .before .found .given .0 .0) (c .before .found .given .0 .1 .0))
+found-value c =
+    line-at (c .before .before .before .before .before .before .before .before .before .before .args .text .now) (at-loop c .loop .at) (c .before .before .before .before .key-at .result)
+    (c .before .before .before .line-value .ensures) (c .before .found .given .1)
 
 values-requires : tie.Need-values-requires Inv-loop μ-loop
 values-requires c κs = search needs
@@ -59,10 +66,16 @@ enum-told : tie.Need-enum-told Inv-loop μ-loop
 enum-told c = search needs
 
 returns : tie.Need-returns Inv-loop μ-loop
-returns c = let inv = c .before .before .before .before .before .before .loop .inv in rw (← inv .0, inv .3) (stopped (inv .4) (omega arith) (c .before .before .before .key-at .ensures .0) (line-at (c .before .before .before .before .before .before .before .before .before .args .text .now) (c .before .before .before .before .before .before .loop .at) (c .before .before .before .key-at .result) (c .before .before .line-value .ensures) (c .enum-told .given .1)))
+returns c =
+    let l = c .before .before .before .before .before .before in
+    rw (← l .loop .inv .0, l .loop .inv .3)
+    (stopped (l .loop .inv .4) (omega arith) (c .before .before .before .key-at .ensures .0)
+    (line-at (c .before .before .before .before .before .before .before .before .before .args .text .now) (l .loop .at) (c .before .before .before .key-at .result)
+    (c .before .before .line-value .ensures) (c .enum-told .given .1)))
 
 add-at : tie.Need-add-at Inv-loop μ-loop
-add-at c = omega (arith, length-drop (place c) (text c), found-value c .within)
+add-at c =
+    omega (arith, length-drop (at-loop c .loop .at) (c .before .before .before .before .before .before .before .before .before .before .args .text .now), found-value c .within)
 
 add-line : tie.Need-add-line Inv-loop μ-loop
 add-line c = search needs
@@ -74,10 +87,19 @@ loop-less : tie.Need-loop-less Inv-loop μ-loop
 loop-less c = search needs
 
 loop-again : tie.Need-loop-again Inv-loop μ-loop
-loop-again c = let inv = c .before .before .before .before .before .before .before .loop .inv in (inv .0, inv .1, inv .2, omega arith, walked (inv .4) (omega arith) (c .before .before .before .before .key-at .ensures .0) (found-value c))
+loop-again c =
+    let inv = at-loop c .loop .inv in
+    (inv .0, inv .1, inv .2, omega arith, walked (inv .4) (omega arith) (c .before .before .before .before .key-at .ensures .0) (found-value c))
 
 returns-2 : tie.Need-returns-2 Inv-loop μ-loop
-returns-2 c = let inv = c .before .loop .inv in record { values = inv .4 .done; given = rw (← inv .0, inv .3) (ended (inv .4) (omega arith)); many = omega (arith, inv .4 .many, inv .4 .few, inv .0); within = inv .4 .within }
+returns-2 c =
+    let inv = c .before .loop .inv in
+    record {
+      values = inv .4 .done;
+      given = rw (← inv .0, inv .3) (ended (inv .4) (omega arith));
+      many = omega (arith, inv .4 .many, inv .4 .few, inv .0);
+      within = inv .4 .within;
+    }
 
 pub judge-rows-spec : {M : Type 1} → statement M
 judge-rows-spec =

@@ -24,10 +24,16 @@ loop-less : tie.Need-loop-less Inv-loop μ-loop
 loop-less c = omega arith
 
 loop-again : tie.Need-loop-again Inv-loop μ-loop
-loop-again c = omega (arith, simp length-append at (ap length (last-digit (c .before .loop .rest) (c .loop-test .taken))))
+loop-again c =
+    omega (arith, simp length-append at (ap length (last-digit (c .before .loop .rest) (c .loop-test .taken))))
 
 returns : tie.Need-returns Inv-loop μ-loop
-returns c = omega (arith, digits-most (c .before .before .args .n) (omega arith), ap length (one-digit (c .before .loop .rest) (c .loop-test .left)))
+returns c =
+    omega (
+      arith,
+      digits-most (c .before .before .args .n) (omega arith),
+      ap length (one-digit (c .before .loop .rest) (c .loop-test .left)),
+    )
 
 pub digit-count-spec : {M : Type 1} → statement M
 digit-count-spec =

@@ -16,13 +16,20 @@ line-length-requires : tie.Need-line-length-requires
 line-length-requires c κs = search needs
 
 values-length-requires : tie.Need-values-length-requires
-values-length-requires c κs = let a = c .before .before .before .before in few-values (a .args .part) (a .args .values .now) (a .pre)
+values-length-requires c κs =
+    let s = c .before .before .before .before in
+    few-values (s .args .part) (s .args .values .now) (s .pre)
 
 add-result : tie.Need-add-result
 add-result c = search needs
 
 returns : tie.Need-returns
-returns c = let a = c .before .before .before .before .before .args in (part-length (partOf (a .part)) (a .values .now) (c .before .before .before .head .ensures .0) (c .before .before .rows .ensures) (c .before .line-length .ensures .0) (c .values-length .ensures .0), omega arith)
+returns c =
+    let a = c .before .before .before .before .before .args in (
+      part-length (partOf (a .part)) (a .values .now) (c .before .before .before .head .ensures .0) (c .before .before .rows .ensures)
+          (c .before .line-length .ensures .0) (c .values-length .ensures .0),
+      omega arith,
+    )
 
 pub part-length-spec : {M : Type 1} → statement M
 part-length-spec =

@@ -15,10 +15,14 @@ ended c =
     omega (arith, line-length (key (a .k)) (a .value))
 
 put-key-requires : tie.Need-put-key-requires
-put-key-requires c κs = let a = c .before .before .args in (omega arith, omega (arith, line-length (key (a .k)) (a .value)))
+put-key-requires c κs =
+    let a = c .before .before .args in
+    (omega arith, omega (arith, line-length (key (a .k)) (a .value)))
 
 put-number-requires : tie.Need-put-number-requires
-put-number-requires c κs = let a = c .before .before .before .before .before .before .args in omega (arith, line-length (key (a .k)) (a .value))
+put-number-requires c κs =
+    let a = c .before .before .before .before .before .before .args in
+    omega (arith, line-length (key (a .k)) (a .value))
 
 slice-write-out : tie.Need-slice-write-out
 slice-write-out c = ended c
@@ -30,7 +34,14 @@ same-length : tie.Need-same-length
 same-length c = simp length-set (omega arith)
 
 returns : tie.Need-returns
-returns c = let s = c .before .before .before .before .before .before .before .before .before in let l = line-length (key (s .args .k)) (s .args .value) in rw (line-bytes (key (s .args .k)) (s .args .value)) (two (two (c .before .before .before .before .before .before .put-key .ensures) (c .before .before .put-number .ensures) (omega arith)) (one _ _ _ (ended c)) (rw length-append (omega arith)))
+returns c =
+    let a = c .before .before .before .before .before .before .before .before .before .args in
+    let l = line-length (key (a .k)) (a .value) in
+    rw (line-bytes (key (a .k)) (a .value))
+    (two
+    (two (c .before .before .before .before .before .before .put-key .ensures) (c .before .before .put-number .ensures) (omega arith))
+    (one _ _ _ (ended c))
+    (rw length-append (omega arith)))
 
 pub put-line-spec : {M : Type 1} → statement M
 put-line-spec =

@@ -38,7 +38,10 @@ same-length : tie.Need-same-length
 same-length c = search needs
 
 returns : tie.Need-returns
-returns c = let r = c .before .before .before .before .before .before .before in part-put (part r) (values r) (r .before .head .ensures .0) (r .rows .ensures) (c .before .before .before .before .before .before .put-line .ensures) (c .before .before .put-values .ensures) (omega (arith, long r))
+returns c =
+    let r = c .before .before .before .before .before .before .before in
+    part-put (part r) (values r) (r .before .head .ensures .0) (r .rows .ensures)
+    (c .before .before .before .before .before .before .put-line .ensures) (c .before .before .put-values .ensures) (omega (arith, long r))
 
 pub put-part-spec : {M : Type 1} → statement M
 put-part-spec =

@@ -27,7 +27,9 @@ shared-slice-read-put-line : tie.Need-shared-slice-read-put-line Inv-loop μ-loo
 shared-slice-read-put-line c = search needs
 
 put-line-requires : tie.Need-put-line-requires Inv-loop μ-loop
-put-line-requires c κs = (c .before .key-at .ensures .1, fits (c .before .before .before .before .loop .inv) (omega arith) (c .before .key-at .ensures .0))
+put-line-requires c κs =
+    let k = c .before .key-at in
+    (k .ensures .1, fits (c .before .before .before .before .loop .inv) (omega arith) (k .ensures .0))
 
 add-i : tie.Need-add-i Inv-loop μ-loop
 add-i c = search needs
@@ -36,7 +38,9 @@ loop-less : tie.Need-loop-less Inv-loop μ-loop
 loop-less c = search needs
 
 loop-again : tie.Need-loop-again Inv-loop μ-loop
-loop-again c = let l = c .before .before .before .before .before .before .before in line-put (l .loop .inv) (omega arith) (c .before .before .before .before .key-at .ensures .0) (c .before .before .put-line .ensures) (c .before .before .put-line .kept .0)
+loop-again c =
+    line-put (c .before .before .before .before .before .before .before .loop .inv) (omega arith) (c .before .before .before .before .key-at .ensures .0)
+    (c .before .before .put-line .ensures) (c .before .before .put-line .kept .0)
 
 same-length : tie.Need-same-length Inv-loop μ-loop
 same-length c = search needs

@@ -14,7 +14,13 @@ div-result : tie.Need-div-result
 div-result c = search needs
 
 cast-result : tie.Need-cast-result
-cast-result c = record { fits = rw (c .width .ensures .0) (omega (arith, sound (c .before .before .args .part) .few (length (c .before .before .args .values .now) / partOf (c .before .before .args .part) .width) (c .before .before .pre .right))) }
+cast-result c =
+    let s = c .before .before in
+    let b = partOf (s .args .part) in
+    record {
+      fits = rw (c .width .ensures .0)
+          (omega (arith, sound (s .args .part) .few (length (s .args .values .now) / b .width) (s .pre .right)));
+    }
 
 returns : tie.Need-returns
 returns c = rw (c .width .ensures .0)

@@ -21,7 +21,9 @@ add-result-2 : tie.Need-add-result-2
 add-result-2 c = search needs
 
 returns : tie.Need-returns
-returns c = let a = c .before .before .before .before .before .before .args in omega (arith, text-length (a .jobs .now) (a .arcs .now) (a .sections .now))
+returns c =
+    let a = c .before .before .before .before .before .before .args in
+    omega (arith, text-length (a .jobs .now) (a .arcs .now) (a .sections .now))
 
 pub text-length-spec : {M : Type 1} → statement M
 text-length-spec =

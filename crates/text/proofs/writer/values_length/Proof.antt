@@ -39,7 +39,10 @@ loop-less : tie.Need-loop-less Inv-loop μ-loop
 loop-less c = search needs
 
 loop-again : tie.Need-loop-again Inv-loop μ-loop
-loop-again c = let inv = c .before .before .before .before .loop .inv in (inv .0, measure (inv .1) (omega arith) (c .before .before .key-at .ensures .0) (c .line-length .ensures .0) (c .line-length .ensures .1))
+loop-again c =
+    let inv = c .before .before .before .before .loop .inv in
+    let n = c .line-length in
+    (inv .0, measure (inv .1) (omega arith) (c .before .before .key-at .ensures .0) (n .ensures .0) (n .ensures .1))
 
 returns : tie.Need-returns Inv-loop μ-loop
 returns c = (measured (c .before .loop .inv .1) (c .loop-test .left), omega arith)

@@ -21,7 +21,9 @@ add-result-2 : tie.Need-add-result-2
 add-result-2 c = omega (arith, mod-lt (c .before .before .args .i) (c .width .ensures .1))
 
 returns : tie.Need-returns
-returns c = (rw (c .before .head .ensures .0, c .width .ensures .0), omega (arith, mod-lt (c .before .before .args .i) (c .width .ensures .1)))
+returns c =
+    let l = mod-lt (c .before .before .args .i) (c .width .ensures .1) in
+    (rw (c .before .head .ensures .0, c .width .ensures .0), omega arith)
 
 pub key-at-spec : {M : Type 1} → statement M
 key-at-spec =

@@ -20,7 +20,10 @@ right-requires : tie.Need-right-requires
 right-requires c κs = search needs
 
 returns : tie.Need-returns
-returns c = c .right .ensures ∙ whole-rows (partOf (c .before .before .before .args .self)) (c .before .before .width .result) (c .before .before .before .args .length) (c .before .before .width .ensures .0) (c .before .if1 .taken)
+returns c =
+    let w = c .before .before .width in
+    c .right .ensures
+    ∙ whole-rows (partOf (c .before .before .before .args .self)) (w .result) (c .before .before .before .args .length) (w .ensures .0) (c .before .if1 .taken)
 
 returns-2 : tie.Need-returns-2
 returns-2 c = rw (← c .before .width .ensures .0, ne-eqb _ _ (c .if1 .left))
