@@ -24,6 +24,9 @@ const NEAR_THE_LIMIT: [&[u32]; 5] = [
     &[31_607, 31_627],
 ];
 
+/// Bytes that are put into some texts, more than a program's buffer has.
+const LONG: usize = 70_000;
+
 /// A generator of numbers (splitmix64).
 struct Random(u64);
 
@@ -282,10 +285,9 @@ fn equal(random: &mut Random, jobs: u32) -> Plan {
     let relative = jobs * each;
     let mut draft = Draft::default();
     for place in 0..jobs {
-        let last = place + 1 == jobs;
-        let more = u32::from(last) * random.below(2);
-        let twice = 1 + u32::from(last) * random.below(2);
-        draft.job(random, each + more * (twice - 1), relative * twice);
+        let last = u32::from(place + 1 == jobs);
+        let times = 1 + last * random.below(2);
+        draft.job(random, each, relative * times);
     }
     let over = random.below(jobs) as usize;
     draft.jobs[over][1] += random.below(2);
@@ -341,11 +343,16 @@ pub fn text(number: u64) -> Vec<u8> {
 fn change(random: &mut Random, text: &mut Vec<u8>) {
     let at = random.below(text.len() as u32) as usize;
     let byte = random.one_of(&b"0123456789=\nab -".map(u32::from)) as u8;
-    match random.below(5) {
+    match random.below(6) {
         0 => text.truncate(at),
         1 => text.push(byte),
         2 => text.insert(at, byte),
         3 => text[at] = byte,
+        4 => {
+            let rest = text.split_off(at);
+            text.resize(at + LONG, byte);
+            text.extend(rest);
+        }
         _ => {
             text.remove(at);
         }

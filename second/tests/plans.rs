@@ -83,6 +83,8 @@ fn texts_are_answered_and_refused() {
         lines.lines().next().unwrap().to_string()
     });
     let firsts: BTreeSet<String> = firsts.collect();
+    let long = (0..TEXTS).filter(|&number| text(number).len() > 65_536);
+    assert!(long.count() >= 20);
     for line in ["density=yes", "density=no"] {
         assert!(firsts.contains(line), "{line} in {firsts:?}");
     }
