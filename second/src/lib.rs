@@ -13,6 +13,7 @@ pub mod cycles;
 pub mod density;
 pub mod dispatch;
 pub mod order;
+pub mod plans;
 pub mod program;
 pub mod reader;
 pub mod refusal;
