@@ -20,7 +20,7 @@ use Rattle.text.specs.Passes.{TableCounted, textFrom, tableOf, TableRead
 use Rattle.text.specs.declared.Reading.{Reading}
 use Rattle.text.specs.declared.Reading.the-variants.{Counts}
 use Rattle.text.specs.Promises.{roomFault, readInto, Rows, rowsOf, counted, Reads, writeInto, Writes}
-use Rattle.text.proofs.Putting.{put-front}
+use Rattle.text.specs.Pieces.{put-front}
 
 -- ---- write
 

@@ -9,7 +9,7 @@ use lib.Seq.{drop-cons}
 use Rattle.rules.specs.Text.{Part, key, keyAt, line, valueLines}
 use Rattle.laws.specs.Text.{lines-none, lines-more}
 use Rattle.text.specs.Put.{put, Over}
-use Rattle.text.proofs.Putting.{put-none, put-put}
+use Rattle.text.specs.Pieces.{put-none, put-put}
 
 -- the lines from value i on
 abbrev pub linesFrom : Part → List ℕ → ℕ → List ℕ

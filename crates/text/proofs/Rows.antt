@@ -14,7 +14,7 @@ use Rattle.text.specs.declared.parts.Part.the-variants.{Jobs, Arcs, Sect
 use Rattle.text.specs.Parts.{partOf, sound}
 use Rattle.text.specs.Put.{Over}
 use Rattle.text.specs.Passes.{textFrom}
-use Rattle.text.proofs.Putting.{two}
+use Rattle.text.specs.Pieces.{two}
 
 -- by the width that the code has
 pub whole-rows : (b : rules.Part) (w n : ℕ) → w ≡ b .width → n % w ≡ 0 → b .right (n / w) ≡ lengthRight b n

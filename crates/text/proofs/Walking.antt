@@ -16,7 +16,7 @@ use Rattle.text.specs.Leaves.{Took}
 use Rattle.text.specs.Put.{put, Over}
 use Rattle.text.specs.Passes.{takenOf, Ready, Filled}
 use Rattle.text.proofs.Lists.{rest-is}
-use Rattle.text.proofs.Putting.{put-none, two, one}
+use Rattle.text.specs.Pieces.{put-none, two, one}
 
 -- values before what is read
 abbrev before : List ℕ → Outcome Taken → Outcome Taken

@@ -4,7 +4,7 @@ use lib.ListN.{length, length-append, length-set}
 use Prim.Native.Nat.{_<_}
 use Rattle.rules.specs.Text.{key}
 use Rattle.laws.specs.Digits.{line-bytes, line-length}
-use Rattle.text.proofs.Putting.{two, one}
+use Rattle.text.specs.Pieces.{two, one}
 use Rattle.text.proofs.writer.put_line.Statement.{statement}
 use Rattle.text.proofs.writer.put_line.Tie as tie
 
