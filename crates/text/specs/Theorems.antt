@@ -62,7 +62,7 @@ reading-settles (Counts x y z) (Counts u v w) e =
     let r : _≡_ {A = Rows} (record { jobs = x; arcs = y; sections = z }) (record { jobs = u; arcs = v; sections = w }) = cc in
     ap (λ (c : Rows). Counts (c .jobs) (c .arcs) (c .sections)) r
 
-writing-settles : (r s : Writing) → writingSays r ≡ writingSays s → r ≡ s
+pub writing-settles : (r s : Writing) → writingSays r ≡ writingSays s → r ≡ s
 writing-settles (Writing.Refused a) (Writing.Refused b) e = ap Writing.Refused (fault-settles a b (cc))
 writing-settles (Writing.Refused a) (Bytes n) e = not-both e refl
 writing-settles (Bytes n) (Writing.Refused b) e = not-both refl e

@@ -1,0 +1,60 @@
+-- What `answer` promises for every text and every lent list: 01's program's output, or 11 and nothing written.
+use mathlib.Core.Path.{_≡_, refl, sym, _∙_}
+use mathlib.Core.Bool.{Bool, true, false, cond}
+use mathlib.Core.List.{List, _++_}
+use Prim.Native.Nat.{ℕ, _+_}
+use native.Mathlib.Nat.{zero-add}
+use native.Mathlib.Omega.{arith}
+use lib.Dec.{leb}
+use lib.ListN.{length, drop}
+use Rattle.rules.specs.Refusals.{Outcome, gives, andThen, unless, room}
+use Rattle.rules.specs.Output as rules
+use Rattle.rules.specs.declared.Refusal.the-variants.{Room}
+use Rattle.text.specs.Put.{put}
+use Rattle.text.specs.Pieces.{put-front}
+use Rattle.text.specs.Promises.{afterwards, writingSays, fits, Puts}
+use Rattle.text.specs.Theorems.{writing-settles}
+use Rattle.text.specs.declared.Put.{Put}
+use Rattle.text.specs.declared.Put.the-variants.{End, Short}
+use Rattle.text.specs.declared.Writing.{Writing}
+use Rattle.text.specs.declared.Writing.the-variants.{Bytes, Refused}
+
+-- What is printed for a text, where there is room for all of it.
+unfoldable pub answerInto : List ℕ → List ℕ → Outcome (List ℕ)
+unfolding rules.answer
+answerInto text out = unless (room (length (rules.answer text)) (length out)) (rules.answer text)
+
+-- The text, the bytes as they are lent, as they are left, and the answer.
+pub record Answers (text out out′ : List ℕ) (r : Writing) : Type 0 where
+  pub answer : writingSays r ≡ andThen (answerInto text out) (λ lines. gives (length lines))
+  pub out-left : out′ ≡ afterwards (answerInto text out) (λ lines. lines) out
+
+-- Any two results of `answer` that its promise allows are equal: the answer and all of the bytes.
+pub answer-settled : {text out out₁ out₂ : List ℕ} {r₁ r₂ : Writing} → Answers text out out₁ r₁ → Answers text out out₂ r₂
+    → (r₁ ≡ r₂) × (out₁ ≡ out₂)
+answer-settled {r₁ = r₁} {r₂ = r₂} u v =
+    (writing-settles r₁ r₂ (u .answer ∙ sym (v .answer)), u .out-left ∙ sym (v .out-left))
+
+-- ---- laws for the code: the lines are put at the front, or there is no room
+
+module _ (text out out′ : List ℕ) where
+  fitting : fits (rules.answer text) out 0 ≡ leb (length (rules.answer text)) (length out)
+  fitting = rw (zero-add (length (rules.answer text))) refl
+
+  pub answers-short : Puts (rules.answer text) out 0 out′ Short → Answers text out out′ (Refused Room)
+  unfolding answerInto
+  answers-short p = go (leb (length (rules.answer text)) (length out)) refl (rw fitting at (p .answer)) (rw fitting at (p .left))
+    where
+      go : (b : Bool) → leb (length (rules.answer text)) (length out) ≡ b → Short ≡ cond b (End (0 + length (rules.answer text))) Short
+          → out′ ≡ cond b (put out 0 (rules.answer text)) out → Answers text out out′ (Refused Room)
+      go true e a l = let z : _≡_ {A = ℕ} 0 1 = cc in absurd (omega arith)
+      go false e a l = record { answer = rw e refl; out-left = rw e l }
+
+  pub answers-whole : (n e : ℕ) → n ≡ length (rules.answer text) → Puts (rules.answer text) out 0 out′ (End e) → Answers text out out′ (Bytes n)
+  unfolding answerInto
+  answers-whole n e q p = go (leb (length (rules.answer text)) (length out)) refl (rw fitting at (p .answer)) (rw fitting at (p .left))
+    where
+      go : (b : Bool) → leb (length (rules.answer text)) (length out) ≡ b → End e ≡ cond b (End (0 + length (rules.answer text))) Short
+          → out′ ≡ cond b (put out 0 (rules.answer text)) out → Answers text out out′ (Bytes n)
+      go true b a l = record { answer = rw (b, q) refl; out-left = rw b (l ∙ put-front out (rules.answer text)) }
+      go false b a l = let z : _≡_ {A = ℕ} 0 1 = cc in absurd (omega arith)
