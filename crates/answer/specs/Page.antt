@@ -1,12 +1,12 @@
 -- Words on a page that has room for them: one after the other, and what each line of an answer is.
-use mathlib.Core.Path.{_≡_, refl, sym, _∙_, ap}
-use mathlib.Core.Bool.{Bool, true, false, cond}
-use mathlib.Core.List.{List, [], _∷_, _++_, append-assoc}
+use mathlib.Core.Path.{_≡_, refl, sym, ap}
+use mathlib.Core.List.{List, [], _++_}
 use Prim.Native.Nat.{ℕ, zero, suc, _+_, _/_, _-_, _<_, _≤_}
 use native.Mathlib.Numerals.{add-one}
 use native.Mathlib.Omega.{arith}
 use lib.IntN.{subℕ}
-use lib.ListN.{length}
+use lib.ListN.{length, take, drop}
+use lib.Seq.{take-at}
 use borrow.Author.Tests.{le-leb, le-ltb, lt-ltb, eq-eqb, ne-eqb}
 use Rattle.rules.specs.Table.{Plan, State}
 use Rattle.rules.specs.Text.{bytesOf, digits}
@@ -14,9 +14,8 @@ use Rattle.rules.specs.Run.{lateness}
 use Rattle.rules.specs.Output.{signed, markWord, jobLines, jobsLines, report}
 use Rattle.dispatch.specs.Lists.{plan, timed, state}
 use Rattle.text.specs.Put.{Over}
-use Rattle.text.specs.Pieces.{two, put-none}
+use Rattle.text.specs.Pieces.{two, put-none, put-front}
 use Rattle.text.specs.Promises.{Puts}
-use Rattle.text.specs.declared.Put.{Put}
 use Rattle.text.specs.declared.Put.the-variants.{End, Short}
 
 -- ---- words
@@ -88,3 +87,10 @@ report-same jobs arcs sections times tick executed marks finish =
       ← jobs-same jobs arcs sections times tick executed marks finish (length jobs / 3),
     )
     refl
+
+-- ---- the page as a whole
+
+-- what was put at the front stands there
+pub front-of : {o vs o′ : List ℕ} {n : ℕ} → Over o 0 vs o′ n → take n o′ ≡ vs
+front-of {o} {vs} {o′} {n} p =
+    rw (p .list, put-front o vs) (take-at vs (drop (length vs) o) n (omega (arith, p .end)))

@@ -1,12 +1,12 @@
 -- What `answer` promises for every text and every lent list: 01's program's output, or 11 and nothing written.
 use mathlib.Core.Path.{_≡_, refl, sym, _∙_}
 use mathlib.Core.Bool.{Bool, true, false, cond}
-use mathlib.Core.List.{List, _++_}
+use mathlib.Core.List.{List}
 use Prim.Native.Nat.{ℕ, _+_}
 use native.Mathlib.Nat.{zero-add}
 use native.Mathlib.Omega.{arith}
 use lib.Dec.{leb}
-use lib.ListN.{length, drop}
+use lib.ListN.{length}
 use Rattle.rules.specs.Refusals.{Outcome, gives, andThen, unless, room}
 use Rattle.rules.specs.Output as rules
 use Rattle.rules.specs.declared.Refusal.the-variants.{Room}
@@ -14,7 +14,6 @@ use Rattle.text.specs.Put.{put}
 use Rattle.text.specs.Pieces.{put-front}
 use Rattle.text.specs.Promises.{afterwards, writingSays, fits, Puts}
 use Rattle.text.specs.Theorems.{writing-settles}
-use Rattle.text.specs.declared.Put.{Put}
 use Rattle.text.specs.declared.Put.the-variants.{End, Short}
 use Rattle.text.specs.declared.Writing.{Writing}
 use Rattle.text.specs.declared.Writing.the-variants.{Bytes, Refused}

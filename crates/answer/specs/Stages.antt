@@ -1,39 +1,40 @@
 -- What the stages of an answer hand on: the lists have room for every table, so reading, planning and running come to what
 -- the rules give.
 use mathlib.Core.Path.{_≡_, refl, sym, _∙_, ap}
-use mathlib.Core.Bool.{Bool, true, false}
-use mathlib.Core.List.{List, [], _∷_, _++_}
+use mathlib.Core.Bool.{true, false}
+use mathlib.Core.List.{List, []}
 use mathlib.Core.Option.{Option, none, some}
-use Prim.Native.Nat.{ℕ, _+_, _*_, _/_, _≤_, _<_}
+use Prim.Native.Nat.{ℕ, _*_, _≤_}
 use native.Mathlib.Omega.{arith}
-use lib.Dec.{leb}
-use lib.ListN.{length, take, drop}
+use lib.ListN.{length, take}
 use lib.Seq.{take-at}
 use borrow.Author.Tests.{le-leb}
-use Rattle.rules.specs.Table.{Table, Plan, State, jobCount, arcCount, sectionCount}
-use Rattle.rules.specs.Refusals.{Fault, faultOf, Outcome, refused, gives, andThen, firstOf, unless, countFaults, checkFault, planOf, check, planInBounds}
+use Rattle.rules.specs.Table.{Table, Plan, jobCount, arcCount, sectionCount}
+use Rattle.rules.specs.Refusals.{Fault, faultOf, Outcome, refused, gives, andThen, unless, checkFault, planOf, check, planInBounds}
 use Rattle.rules.specs.Text as rules
 use Rattle.rules.specs.Times.{timesTo}
 use Rattle.rules.specs.Tick.{chosen}
 use Rattle.rules.specs.Run.{endState}
+use Rattle.rules.specs.Output.{report, refusalLines, printed, answer}
 use Rattle.rules.specs.declared.Refusal.{Refusal}
 use Rattle.laws.specs.Tests.{le-says, says-and, yes-says}
-use Rattle.laws.specs.Text.{Counted, AllCounted, counts-is, Right, read-is}
+use Rattle.laws.specs.Text.{counts-is, read-is}
 use Rattle.laws.specs.Times.{times-length}
 use Rattle.laws.specs.Refusals.{accepted-facts}
 use Rattle.laws.specs.Accepted.{plan-in-bounds}
-use Rattle.run_laws.specs.States.{Good, good, answered-is, stateAfter}
+use Rattle.run_laws.specs.States.{Good, good, answered-is}
 use Rattle.run_laws.specs.Theorems.{end-reached}
-use Rattle.text.specs.Promises.{readInto, roomFault, counted, afterwards, Reads, rowsOf, Rows}
-use Rattle.text.specs.declared.Reading.{Reading}
+use Rattle.text.specs.Promises.{readInto, counted, afterwards, Reads, rowsOf, Rows}
 use Rattle.text.specs.declared.Reading.the-variants.{Refused, Counts}
 use Rattle.plan.specs.Promise.{planned, Plans}
 use Rattle.plan.specs.Promise as planning
 use Rattle.plan.specs.declared.Planned.{Planned}
 use Rattle.plan.specs.declared.Planned.the-variants.{Times}
 use Rattle.dispatch.specs.Promise.{Lists, Reach, faultFor, Runs, start-ready, refused-kept, holding}
+use Rattle.dispatch.specs.Lists.{plan, timed, state}
 use Rattle.dispatch.specs.declared.Reached.{Reached}
 use Rattle.dispatch.specs.declared.Reached.the-variants.{Tick}
+use Rattle.answer.specs.Page.{report-same}
 
 -- ---- reading
 
@@ -57,6 +58,15 @@ read-long text t e =
       sections = omega (arith, c .sections .whole);
       few-sections = yes-says (le-says (sectionCount t) 128) (c .sections .right);
     }
+
+-- the table that was read stands in the fronts of the lists
+pub record Fronts (text jobs arcs sections : List ℕ) (m n o : ℕ) : Type 0 where
+  pub table : Table
+  pub read : rules.read text ≡ gives table
+  pub counts : (m ≤ 64) × (n ≤ 256) × (o ≤ 128)
+  pub jobs-front : take (3 * m) jobs ≡ table .jobs
+  pub arcs-front : take (2 * n) arcs ≡ table .arcs
+  pub sections-front : take (4 * o) sections ≡ table .sections
 
 module _ (text jobs arcs sections : List ℕ) (j : length jobs ≡ 192) (a : length arcs ≡ 512) (s : length sections ≡ 512) where
   -- there is room for every table
@@ -84,22 +94,13 @@ module _ (text jobs arcs sections : List ℕ) (j : length jobs ≡ 192) (a : len
         go (refused f) e = let q : f ≡ faultOf r = cc in ap refused q
         go (gives t) e = let z : _≡_ {A = ℕ} 0 1 = cc in absurd (omega arith)
 
-    -- the table that was read stands in the fronts of the lists
-    pub record Fronts (m n o : ℕ) : Type 0 where
-      pub table : Table
-      pub read : rules.read text ≡ gives table
-      pub counts : (m ≤ 64) × (n ≤ 256) × (o ≤ 128)
-      pub jobs-front : take (3 * m) jobs′ ≡ table .jobs
-      pub arcs-front : take (2 * n) arcs′ ≡ table .arcs
-      pub sections-front : take (4 * o) sections′ ≡ table .sections
-
-    pub was-read : (m n o : ℕ) → Reads text jobs arcs sections jobs′ arcs′ sections′ (Counts m n o) → Fronts m n o
+    pub was-read : (m n o : ℕ) → Reads text jobs arcs sections jobs′ arcs′ sections′ (Counts m n o) → Fronts text jobs′ arcs′ sections′ m n o
     was-read m n o p =
         go (rules.read text) refl (rw roomy at (p .answer)) (rw roomy at (p .jobs-left)) (rw roomy at (p .arcs-left)) (rw roomy at (p .sections-left))
       where
         go : (r : Outcome Table) → rules.read text ≡ r → gives record { jobs = m; arcs = n; sections = o } ≡ counted r
             → jobs′ ≡ afterwards r (λ t. t .jobs) jobs → arcs′ ≡ afterwards r (λ t. t .arcs) arcs
-            → sections′ ≡ afterwards r (λ t. t .sections) sections → Fronts m n o
+            → sections′ ≡ afterwards r (λ t. t .sections) sections → Fronts text jobs′ arcs′ sections′ m n o
         go (refused f) e c x y z = let q : _≡_ {A = ℕ} 0 1 = cc in absurd (omega arith)
         go (gives t) e c x y z =
             let l = read-long text t e in
@@ -182,3 +183,23 @@ module _ (p : Plan) (l l′ : Lists) (b : planInBounds p ≡ true) (few : jobCou
         rw d (take-at (endState p .marks) _ (jobCount (p .table)) (g .marks-long)),
         rw d (take-at (endState p .finish) _ (jobCount (p .table)) (g .finish-long)),
       )
+
+-- ---- what is printed
+
+pub end-printed : (jobs arcs sections times marks finish : List ℕ) (t n : ℕ)
+    → t ≡ endState (plan jobs arcs sections times) .tick
+    → take n marks ≡ endState (plan jobs arcs sections times) .marks
+    → take n finish ≡ endState (plan jobs arcs sections times) .finish
+    → report (timed jobs times) (state t [] (take n marks) (take n finish))
+    ≡ report (plan jobs arcs sections times) (endState (plan jobs arcs sections times))
+end-printed jobs arcs sections times marks finish t n x y z =
+    let e = endState (plan jobs arcs sections times) in
+    rw (x, y, z) (report-same jobs arcs sections times (e .tick) (e .executed) (e .marks) (e .finish))
+
+pub refusal-printed : (text : List ℕ) (f : Fault) → rules.read text ≡ refused f → answer text ≡ refusalLines f
+unfolding answer
+refusal-printed text f e = rw e refl
+
+pub table-printed : (text : List ℕ) (t : Table) → rules.read text ≡ gives t → answer text ≡ printed (λ p. report p (endState p)) (check t)
+unfolding answer
+table-printed text t e = rw e refl
