@@ -2,14 +2,15 @@
 use mathlib.Core.Path.{_≡_, refl, sym, _∙_}
 use mathlib.Core.Bool.{Bool, true, false, cond}
 use mathlib.Core.List.{List}
-use Prim.Native.Nat.{ℕ, _+_}
+use Prim.Native.Nat.{ℕ, _+_, _≤_, _<_}
 use native.Mathlib.Nat.{zero-add}
 use native.Mathlib.Omega.{arith}
 use lib.Dec.{leb}
 use lib.ListN.{length}
-use Rattle.rules.specs.Refusals.{Outcome, gives, andThen, unless, room}
+use Rattle.rules.specs.Refusals.{Outcome, gives, andThen, unless, demand, room}
 use Rattle.rules.specs.Output as rules
 use Rattle.rules.specs.declared.Refusal.the-variants.{Room}
+use Rattle.laws.specs.Tests.{Says, so, not-so, le-says}
 use Rattle.text.specs.Put.{put}
 use Rattle.text.specs.Pieces.{put-front}
 use Rattle.text.specs.Promises.{afterwards, writingSays, fits, Puts}
@@ -57,3 +58,13 @@ module _ (text out out′ : List ℕ) where
           → out′ ≡ cond b (put out 0 (rules.answer text)) out → Answers text out out′ (Bytes n)
       go true b a l = record { answer = rw (b, q) refl; out-left = rw b (l ∙ put-front out (rules.answer text)) }
       go false b a l = let z : _≡_ {A = ℕ} 0 1 = cc in absurd (omega arith)
+
+  -- what is written is within the lent bytes
+  pub bytes-fit : (n : ℕ) → Answers text out out′ (Bytes n) → n ≤ length out
+  unfolding answerInto
+  bytes-fit n p = go (le-says (length (rules.answer text)) (length out)) (p .answer)
+    where
+      go : {b : Bool} → Says (length (rules.answer text) ≤ length out) (length out < length (rules.answer text)) b
+          → gives n ≡ andThen (unless (demand b 11) (rules.answer text)) (λ lines. gives (length lines)) → n ≤ length out
+      go (so h) e = let q : n ≡ length (rules.answer text) = cc in omega arith
+      go (not-so h) e = let z : _≡_ {A = ℕ} 0 1 = cc in absurd (omega arith)
