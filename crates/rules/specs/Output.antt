@@ -47,6 +47,7 @@ unfoldable pub refusalLines : Fault → List ℕ
 unfolding bytesOf line
 refusalLines f = line (bytesOf "refusal=") (f .number) ++ line (bytesOf "place=") (f .place)
 
+-- What is printed of an outcome: the refusal, or what is given, as `show` writes it.
 abbrev pub printed : {A : Type 0} → (A → List ℕ) → Outcome A → List ℕ
 printed show (refused f) = refusalLines f
 printed show (gives a) = show a

@@ -44,6 +44,7 @@ unfoldable pub behindCycle : Table
 behindCycle = record
     { jobs = 0 ∷ 1 ∷ 9 ∷ 0 ∷ 1 ∷ 9 ∷ 0 ∷ 1 ∷ 9 ∷ []; arcs = 1 ∷ 2 ∷ 2 ∷ 1 ∷ 2 ∷ 0 ∷ []; sections = [] }
 
+-- What the rules say of each table, and of texts that a slip of the reader would take otherwise.
 unfoldable pub slips : List Claim
 unfolding overtaking chain early standing equals behindCycle
 slips =
