@@ -1,13 +1,12 @@
 -- What an accepted table and a plan within its bounds are known to be, as facts.
-use mathlib.Core.Path.{_≡_, refl, sym, _∙_, ap}
-use mathlib.Core.Logic.{_≢_, _⊎_, inl, inr, ⊎-elim}
-use mathlib.Core.Bool.{Bool, true, false, cond, not, _&&_, _||_}
+use mathlib.Core.Path.{_≡_, refl}
+use mathlib.Core.Logic.{⊎-elim}
+use mathlib.Core.Bool.{Bool, true, false}
 use mathlib.Core.List.{List, [], _∷_, _++_, append-assoc}
 use mathlib.Core.Option.{Option, none, some}
-use Prim.Native.Nat.{ℕ, zero, suc, _+_, _*_, _-_, _%_, _≤_, _<_}
+use Prim.Native.Nat.{ℕ, _+_, _*_, _%_, _≤_, _<_}
 use native.Mathlib.Omega.{arith}
 use lib.ListN.{length}
-use lib.Dec.{ltb, leb, eqb}
 use Rattle.rules.specs.Rows.{all, lowest}
 use Rattle.rules.specs.Table.{
   Table,
@@ -33,15 +32,10 @@ use Rattle.rules.specs.Table.{
   resource,
   from,
   to,
-  modifiedRelease,
-  modifiedDeadline,
 }
-use Rattle.rules.specs.Times.{lift, newRelease, liftedDeadline, timesTo}
+use Rattle.rules.specs.Times.{lift, newRelease, liftedDeadline}
 use Rattle.rules.specs.Refusals.{
   Fault,
-  fault,
-  Outcome,
-  refused,
   gives,
   firstOf,
   unless,
@@ -65,9 +59,6 @@ use Rattle.rules.specs.Refusals.{
 }
 use Rattle.laws.specs.Tests.{
   Says,
-  so,
-  not-so,
-  clash,
   bool-says,
   says-map,
   says-and,
@@ -77,9 +68,8 @@ use Rattle.laws.specs.Tests.{
   eq-says,
   yes-says,
   no-says,
-  yes-of,
 }
-use Rattle.laws.specs.Rows.{Lowest, lowest-told, lowest-is, all-says}
+use Rattle.laws.specs.Rows.{Lowest, lowest-told}
 
 -- ---- refusals in order
 
@@ -97,12 +87,6 @@ pub first-of-append : (xs ys : List (Option Fault)) → firstOf (xs ++ ys) ≡ n
 first-of-append [] ys e = (refl, e)
 first-of-append (none ∷ xs) ys e = first-of-append xs ys e
 first-of-append (some f ∷ xs) ys e = let z : _≡_ {A = ℕ} 0 1 = cc in absurd (omega arith)
-
--- the stages of the front pass: what the rest says
-pub first-of-rest : (xs ys : List (Option Fault)) → firstOf xs ≡ none → firstOf (xs ++ ys) ≡ firstOf ys
-first-of-rest [] ys e = refl
-first-of-rest (none ∷ xs) ys e = first-of-rest xs ys e
-first-of-rest (some f ∷ xs) ys e = let z : _≡_ {A = ℕ} 0 1 = cc in absurd (omega arith)
 
 -- a stage that finds nothing
 pub demand-none : (b : Bool) (n : ℕ) → demand b n ≡ none → b ≡ true

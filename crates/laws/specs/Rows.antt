@@ -1,7 +1,7 @@
 -- Laws of what is said of rows: all, any, counts, sums, the largest, the smallest, the lowest.
 use mathlib.Core.Path.{_≡_, refl, sym, _∙_, ap}
 use mathlib.Core.Logic.{_≢_, ⊎-elim}
-use mathlib.Core.Bool.{Bool, true, false, cond, _&&_, _||_}
+use mathlib.Core.Bool.{Bool, true, false, cond, _||_}
 use mathlib.Core.Option.{Option, none, some}
 use Prim.Native.Nat.{ℕ, zero, suc, _+_, _*_, _≤_, _<_, min, max}
 use native.Mathlib.Numerals.{add-one}
@@ -53,9 +53,6 @@ module _ (f : ℕ → Bool) where
   pub any-none : (n : ℕ) → ((k : ℕ) → k < n → f k ≡ false) → any f n ≡ false
   any-none n h = no-of (any-says _ _ f (λ i. bool-says (f i)) n) (λ w. clash (w .2) (h (w .0) (w .1)))
 
-  pub any-found : (n : ℕ) → any f n ≡ true → (k : ℕ) × (k < n) × (f k ≡ true)
-  any-found n = yes-says (any-says _ _ f (λ i. bool-says (f i)) n)
-
   pub any-not : (n : ℕ) → any f n ≡ false → (k : ℕ) → k < n → f k ≡ false
   any-not n = no-says (any-says _ _ f (λ i. bool-says (f i)) n)
 
@@ -77,10 +74,6 @@ module _ (f : ℕ → Bool) where
 -- ---- the step at the code's n + 1
 
 module _ (f : ℕ → Bool) (n : ℕ) where
-  pub all-more : all f (n + 1) ≡ (all f n && f n)
-  unfolding all
-  all-more = rw add-one
-
   pub any-more : any f (n + 1) ≡ (any f n || f n)
   unfolding any
   any-more = rw add-one
@@ -92,10 +85,6 @@ module _ (f : ℕ → Bool) (n : ℕ) where
 pub sum-more : (f : ℕ → ℕ) (n : ℕ) → sum f (n + 1) ≡ sum f n + f n
 unfolding sum
 sum-more f n = rw add-one
-
-pub lowest-more : (f : ℕ → Bool) (n : ℕ) → lowest f (n + 1) ≡ orElse (lowest f n) (f n) n
-unfolding lowest
-lowest-more f n = rw add-one
 
 -- ---- rows that agree
 

@@ -1,12 +1,12 @@
 -- 01, "Density test".
-use mathlib.Core.Bool.{Bool, true, false, cond, _&&_, _||_, not}
-use mathlib.Core.List.{List, [], _∷_}
+use mathlib.Core.Bool.{Bool, false, cond, _&&_, _||_, not}
+use mathlib.Core.List.{[], _∷_}
 use mathlib.Core.Option.{Option, none, some}
 use Prim.Native.Nat.{ℕ, zero, suc, _+_, _*_, _/_, _%_}
 use lib.Dec.{ltb, leb, eqb}
 use Rattle.rules.specs.Rows.{count, sum, largest, first}
 use Rattle.rules.specs.Table.{Plan, jobCount, cost, sectionCount, owner, resource, ticksOf, span}
-use Rattle.rules.specs.Refusals.{Fault, Outcome, refused, gives, unless, firstOf, demand, planInBounds}
+use Rattle.rules.specs.Refusals.{Fault, Outcome, unless, firstOf, demand, planInBounds}
 use Rattle.rules.specs.Tick.{ceiling}
 
 -- ---- places

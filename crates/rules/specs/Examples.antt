@@ -1,14 +1,14 @@
 -- 01, "Shelf examples": those marked P, every fact stated of each, proved of the rules by computation.
-use mathlib.Core.Path.{_≡_, refl}
+use mathlib.Core.Path.{refl}
 use mathlib.Core.Bool.{Bool, true, false}
 use mathlib.Core.List.{List, [], _∷_}
-use mathlib.Core.Option.{Option, none, some}
+use mathlib.Core.Option.{none, some}
 use Prim.Native.Nat.{ℕ}
-use lib.IntN.{ℤ, pos, negsuc}
+use lib.IntN.{pos, negsuc}
 use Rattle.rules.specs.Claims.{Claim, _is_, AllHold, _&_}
-use Rattle.rules.specs.Table.{Table, Plan, State, ticksOf}
+use Rattle.rules.specs.Table.{Table, Plan}
 use Rattle.rules.specs.Times.{newRelease, newDeadline}
-use Rattle.rules.specs.Refusals.{Outcome, refused, gives, fault, check, planOf}
+use Rattle.rules.specs.Refusals.{refused, gives, fault, check, planOf}
 use Rattle.rules.specs.Text.{bytesOf, textOf, read}
 use Rattle.rules.specs.Run.{start, afterReports, schedule, endState, lateness, waited, longestLater}
 use Rattle.rules.specs.Density.{placeOfJob, multiple, densitySum, density}

@@ -1,10 +1,10 @@
 -- 01, "Shelf examples", its last part: what the program prints.
-use mathlib.Core.Bool.{Bool, true, false, cond}
+use mathlib.Core.Bool.{cond}
 use mathlib.Core.List.{List, [], _∷_, _++_}
-use Prim.Native.Nat.{ℕ, zero, suc, _+_, _-_}
+use Prim.Native.Nat.{ℕ, zero, suc, _+_}
 use lib.IntN.{ℤ, pos, negsuc}
 use lib.Dec.{eqb}
-use Rattle.rules.specs.Table.{Table, Plan, State, jobCount, modifiedRelease, modifiedDeadline, mark, finish}
+use Rattle.rules.specs.Table.{Plan, State, jobCount, modifiedRelease, modifiedDeadline, mark, finish}
 use Rattle.rules.specs.Refusals.{Fault, Outcome, refused, gives, andThen, check}
 use Rattle.rules.specs.Text.{bytesOf, lf, digits, line, read}
 use Rattle.rules.specs.Run.{endState, lateness}
