@@ -32,6 +32,8 @@ use Rattle.rules.specs.Table.{
   resource,
   from,
   to,
+  modifiedRelease,
+  modifiedDeadline,
 }
 use Rattle.rules.specs.Times.{lift, newRelease, liftedDeadline}
 use Rattle.rules.specs.Refusals.{
@@ -69,7 +71,7 @@ use Rattle.laws.specs.Tests.{
   yes-says,
   no-says,
 }
-use Rattle.laws.specs.Rows.{Lowest, lowest-told}
+use Rattle.laws.specs.Rows.{Lowest, lowest-told, all-at}
 
 -- ---- refusals in order
 
@@ -197,16 +199,42 @@ accepted-none : (o : Option Fault) → accepted o ≡ true → o ≡ none
 accepted-none none e = refl
 accepted-none (some f) e = let z : _≡_ {A = ℕ} 0 1 = cc in absurd (omega arith)
 
-pub bounds-rows : (p : Plan) → planInBounds p ≡ true → RowsRight (p .table) × (length (p .times) ≡ 2 * jobCount (p .table))
-unfolding planInBounds
-bounds-rows p e =
-    let (a, b) =
-    yes-says
+-- what `timesRight` tests, as facts
+pub record TimesIn (p : Plan) (j : ℕ) : Type 0 where
+  pub release-in : modifiedRelease p j ≤ latest
+  pub deadline-in : modifiedDeadline p j ≤ latest
+  pub window : modifiedRelease p j + cost (p .table) j ≤ modifiedDeadline p j
+
+pub times-says : (p : Plan) (j : ℕ) → Says (TimesIn p j) (TimesIn p j → ⊥) (timesRight p j)
+unfolding timesRight
+times-says p j =
+    says-map
+    (λ w. record { release-in = w .0; deadline-in = w .1 .0; window = w .1 .1 })
+    (⊎-elim
+    (λ l h. omega (arith, h .release-in))
+    (⊎-elim (λ l h. omega (arith, h .deadline-in)) (λ l h. omega (arith, h .window))))
     (says-and
-    (bool-says (accepted (firstOf (countFaults (p .table) ++ rowFaults (p .table)))))
-    (says-and (eq-says (length (p .times)) (2 * jobCount (p .table))) (bool-says (all (timesRight p) (jobCount (p .table))))))
-    e in
-    (rows-right (p .table) (accepted-none (firstOf (countFaults (p .table) ++ rowFaults (p .table))) a), b .0)
+    (le-says (modifiedRelease p j) latest)
+    (says-and (le-says (modifiedDeadline p j) latest) (le-says (modifiedRelease p j + cost (p .table) j) (modifiedDeadline p j))))
+
+module _ (p : Plan) (e : planInBounds p ≡ true) where
+  bounds-parts : RowsRight (p .table)
+      × (length (p .times) ≡ 2 * jobCount (p .table)) × (all (timesRight p) (jobCount (p .table)) ≡ true)
+  unfolding planInBounds
+  bounds-parts =
+      let (values, rest) =
+      yes-says
+      (says-and
+      (bool-says (accepted (firstOf (countFaults (p .table) ++ rowFaults (p .table)))))
+      (says-and (eq-says (length (p .times)) (2 * jobCount (p .table))) (bool-says (all (timesRight p) (jobCount (p .table))))))
+      e in
+      (rows-right (p .table) (accepted-none (firstOf (countFaults (p .table) ++ rowFaults (p .table))) values), rest .0, rest .1)
+
+  pub bounds-rows : RowsRight (p .table) × (length (p .times) ≡ 2 * jobCount (p .table))
+  bounds-rows = (bounds-parts .0, bounds-parts .1)
+
+  pub bounds-times : (j : ℕ) → j < jobCount (p .table) → TimesIn p j
+  bounds-times j l = yes-says (times-says p j) (all-at (timesRight p) (jobCount (p .table)) (bounds-parts .2) j l)
 
 -- ---- an accepted table
 
