@@ -302,10 +302,11 @@ fn listed(list: &[u32]) -> String {
     format!("{}{}\n", list.len(), numbers.collect::<String>())
 }
 
-/// Gives the plans of so many numbers from the first on, for a program that reads cases: how
-/// many there are, then each one's number and its four lists.
+/// Gives the plans of so many numbers from the first on, for a program that reads cases: none
+/// for the first two entries that it asks, then how many there are for the density test, and
+/// each one's number and its four lists.
 pub fn plan_lines(first: u64, count: u64) -> String {
-    let mut lines = format!("{count}\n");
+    let mut lines = format!("0\n0\n{count}\n");
     for number in first..first + count {
         let plan = plan(number);
         let table = &plan.table;
@@ -322,7 +323,7 @@ pub fn answer_lines(first: u64, count: u64) -> String {
     let line = |number: u64| match density(&plan(number)) {
         Ok(density) if density.yes => format!("{number}: yes\n"),
         Ok(density) => format!("{number}: no, place {}\n", density.place),
-        Err(r) => format!("{number}: refusal {}, place {}\n", r.number, r.place),
+        Err(r) => format!("{number}: refusal {} place {}\n", r.number, r.place),
     };
     (first..first + count).map(line).collect()
 }

@@ -15,18 +15,11 @@ pub struct Filled {
     pub next: usize,
 }
 
-// Places for a list to be read into.
+// Places for a list to be read into or lent, each with a number by which it can be seen what was written.
 pub fn places() -> [u32; 600]
     ensures { λ r. ⌜ 600 ≡ length r ⌝ }
 {
-    [0; 600]
-}
-
-// A list to be lent, of a number by which it can be seen what was written.
-pub fn lent() -> [u32; 160]
-    ensures { λ r. ⌜ 160 ≡ length r ⌝ }
-{
-    [7; 160]
+    [7; 600]
 }
 
 // A count, cut at `most`.
@@ -95,4 +88,15 @@ pub fn list(text: &[u8], at: usize, list: &mut [u32]) -> Filled
         k += 1;
     }
     Filled { length: n, next }
+}
+
+// How many of so many places are lent.
+pub fn lent(text: &[u8], at: usize, most: usize) -> Filled
+    ensures { λ r. ⌜ r .length ≤ most ⌝ }
+{
+    let count = number(text, at);
+    Filled {
+        length: at_most(count.value, most),
+        next: count.next,
+    }
 }

@@ -1,5 +1,6 @@
 // Words, numbers and times to standard output.
 use libc::STDOUT_FILENO;
+use rules::Refusal;
 
 pub fn say(words: &[u8]) {
     io::write_all(STDOUT_FILENO, words);
@@ -9,6 +10,12 @@ pub fn say(words: &[u8]) {
 pub fn count(words: &[u8], x: u32) {
     say(words);
     io::print_decimal(STDOUT_FILENO, x as u64);
+}
+
+// A refusal's number and place.
+pub fn refused(refusal: Refusal) {
+    count(b": refusal ", refusal.number());
+    count(b" place ", refusal.place());
 }
 
 // How many of the numbers are still the 7 that the list was lent with.

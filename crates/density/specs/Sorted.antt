@@ -13,7 +13,7 @@ use Rattle.rules.specs.Rows.{count, sum, lowest}
 use Rattle.rules.specs.Table.{Plan, span}
 use Rattle.rules.specs.Density.{sortsBefore}
 use Rattle.laws.specs.Tests.{tested, clash, yes-of, no-says}
-use Rattle.laws.specs.Rows.{sum-ext, sum-term, sum-but-one, sum-none, Lowest, lowest-told}
+use Rattle.laws.specs.Rows.{sum-ext, sum-term, sum-but-one, sum-none, count-sum, Lowest, lowest-told}
 use Rattle.density.specs.Order.{Sooner, shorter, lower, sorts-says, sorts-order}
 
 -- ---- sums
@@ -57,11 +57,6 @@ sum-ones : (n : ℕ) → sum (λ i. 1) n ≡ n
 unfolding sum
 sum-ones zero = refl
 sum-ones (suc n) = omega (arith, sum-ones n)
-
-count-sum : (f : ℕ → Bool) (n : ℕ) → count f n ≡ sum (λ k. cond (f k) 1 0) n
-unfolding count sum
-count-sum f zero = refl
-count-sum f (suc n) = rw (count-sum f n)
 
 -- ---- a sorting
 

@@ -8,9 +8,9 @@ use Prim.Native.Nat.{ℕ, zero, suc, _+_, _*_, _/_, _≤_, _<_}
 use native.Mathlib.Nat.{mul-le-mul-left, mul-assoc}
 use native.Mathlib.Decide.{decLe}
 use native.Mathlib.Omega.{arith}
-use lib.Dec.{ltb, eqb}
+use lib.Dec.{ltb}
 use borrow.Author.Tests.{le-leb}
-use Rattle.rules.specs.Rows.{sum, first, lowest}
+use Rattle.rules.specs.Rows.{sum, lowest}
 use Rattle.rules.specs.Table.{Plan, jobCount, cost, span}
 use Rattle.rules.specs.Refusals.{Outcome, refused, gives, planInBounds}
 use Rattle.rules.specs.Density.{sortsBefore, placeOfJob, gcd, multiple, blocking, densitySum, fails, placeOrYes, failingPlace, mostMultiple, densityFault, density}

@@ -20,6 +20,7 @@ use Rattle.laws.specs.Tests.{bool-says, lt-says, says-and, yes-says}
 use Rattle.laws.specs.Answers.{fault-settles}
 use Rattle.run_laws.specs.Theorems.{end-reached}
 use Rattle.dispatch.specs.Choice.{chosen-pending}
+use Rattle.dispatch.specs.Lists.{state}
 use Rattle.dispatch.specs.Judged.{inBounds, JobStateIn, StateIn, state-in, in-state, step-good}
 use Rattle.dispatch.specs.Promise.{Result, said, Steps, Lists, Reach, told, Starts, Runs, asked, Lateness}
 use Rattle.dispatch.specs.declared.Ran.{Ran}
@@ -51,9 +52,23 @@ said-one (Ran.Refused f) Idle s t e = apart (let q : some (faultOf f) ≡ none =
 said-one (Ran.Refused f) (Ran.Refused g) s t e =
     (ap Ran.Refused (refusal-one f g (ap (λ (r : Result). r .refusal) e)), ap (λ (r : Result). r .after) e)
 
-pub step-settled : (p : Plan) (st : State) (silent : Bool) (r r′ : Stepped) (a a′ : State)
-    → Steps p st silent r a → Steps p st silent r′ a′ → (r .ran ≡ r′ .ran) × (a ≡ a′)
-step-settled p st silent r r′ a a′ x y = said-one (r .ran) (r′ .ran) a a′ (x .is ∙ sym (y .is))
+-- the tick and what the step did are all that `step` answers
+step-one : (r r′ : Stepped) → r .tick ≡ r′ .tick → r .ran ≡ r′ .ran → r ≡ r′
+step-one r r′ t q =
+    let left : _≡_ {A = Stepped} (record { tick = r .tick; ran = r .ran }) (record { tick = r′ .tick; ran = r .ran }) = rw t in
+    let right : _≡_ {A = Stepped} (record { tick = r′ .tick; ran = r .ran }) (record { tick = r′ .tick; ran = r′ .ran }) = rw q in
+    left ∙ right
+
+pub step-settled : (p : Plan) (st : State) (silent : Bool) (r r′ : Stepped) (e m f e′ m′ f′ : List ℕ)
+    → Steps p st silent r (state (r .tick) e m f) → Steps p st silent r′ (state (r′ .tick) e′ m′ f′)
+    → (r ≡ r′) × (e ≡ e′) × (m ≡ m′) × (f ≡ f′)
+step-settled p st silent r r′ e m f e′ m′ f′ x y =
+    let (ran, after) = said-one (r .ran) (r′ .ran) (state (r .tick) e m f) (state (r′ .tick) e′ m′ f′) (x .is ∙ sym (y .is)) in (
+      step-one r r′ (ap (λ (s : State). s .tick) after) ran,
+      ap (λ (s : State). s .executed) after,
+      ap (λ (s : State). s .marks) after,
+      ap (λ (s : State). s .finish) after,
+    )
 
 told-one : (a b : Reached) (l m : Lists) → told a l ≡ told b m → (a ≡ b) × (l ≡ m)
 told-one (Tick i) (Tick j) l m e = (ap Tick (ap (λ (r : Reach). r .tick) e), ap (λ (r : Reach). r .lent) e)

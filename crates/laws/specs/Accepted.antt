@@ -1,35 +1,22 @@
 -- The plan of an accepted table: its times lie within their bounds and agree with the arcs.
-use mathlib.Core.Path.{_≡_, refl, sym, _∙_, ap}
-use mathlib.Core.Bool.{Bool, true, false, _&&_}
-use mathlib.Core.List.{List, [], _∷_, _++_}
-use mathlib.Core.Option.{Option, none, some}
-use Prim.Native.Nat.{ℕ, zero, suc, _+_, _*_, _-_, _≤_, _<_}
+use mathlib.Core.Path.{_≡_}
+use mathlib.Core.Bool.{true}
+use mathlib.Core.List.{_++_, append-assoc}
+use mathlib.Core.Option.{none}
+use Prim.Native.Nat.{ℕ, _+_, _*_, _≤_, _<_}
 use native.Mathlib.Omega.{arith}
 use lib.ListN.{length}
-use lib.Dec.{leb, eqb}
-use borrow.Author.Tests.{le-leb, eq-eqb}
-use Rattle.rules.specs.Rows.{all}
-use Rattle.rules.specs.Table.{
-  Table,
-  Plan,
-  jobCount,
-  cost,
-  deadline,
-  precedes,
-  latest,
-  modifiedRelease,
-  modifiedDeadline,
-}
+use borrow.Author.Tests.{eq-eqb}
+use Rattle.rules.specs.Table.{Table, jobCount, cost, deadline, precedes, modifiedRelease, modifiedDeadline}
 use Rattle.rules.specs.Times.{lift, newRelease, liftedDeadline, timesTo}
-use Rattle.rules.specs.Refusals.{firstOf, countFaults, rowFaults, planFaults, checkFault, planOf, accepted, timesRight, planInBounds}
+use Rattle.rules.specs.Refusals.{countFaults, rowFaults, planFaults, checkFault, planOf, timesRight, planInBounds}
 use Rattle.rules.specs.Order.{comesBefore}
-use Rattle.laws.specs.Tests.{yes-of}
+use Rattle.laws.specs.Tests.{yes-of, says-yes}
 use Rattle.laws.specs.Rows.{all-from}
-use Rattle.laws.specs.Order.{EarlierIn, by-deadline, before-says}
-use Rattle.laws.specs.Reach.{Ancestor, direct, further, ArcsInside, precedes-inside, ancestor-inside}
+use Rattle.laws.specs.Order.{by-deadline, before-says}
+use Rattle.laws.specs.Reach.{Ancestor, direct, further, ArcsInside, precedes-inside}
 use Rattle.laws.specs.Times.{times-at, times-length, release-forward, deadline-forward, deadline-earlier}
-use Rattle.laws.specs.Refusals.{RowsRight, JobIn, ArcIn, Accepted, first-of-append, accepted-facts}
-use mathlib.Core.List.{append-assoc}
+use Rattle.laws.specs.Refusals.{RowsRight, Accepted, times-says, first-of-append, accepted-facts}
 
 pub arcs-inside : (t : Table) → RowsRight t → ArcsInside t
 arcs-inside t r a l = let h = r .arc-in a l in (h .before-in, h .after-in)
@@ -55,16 +42,12 @@ module _ (t : Table) (A : Accepted t) where
   due j l = omega (arith, plan-deadline j l, deadline-earlier t j)
 
   times-right : (j : ℕ) → j < jobCount t → timesRight (planOf t) j ≡ true
-  unfolding timesRight planOf
+  unfolding planOf
   times-right j l =
       let w = window j l in
       let d = due j l in
       let b = A .rows .job-in j l .deadline-in in
-      simp (
-        le-leb (modifiedRelease (planOf t) j) latest (omega arith),
-        le-leb (modifiedDeadline (planOf t) j) latest (omega arith),
-        le-leb (modifiedRelease (planOf t) j + cost t j) (modifiedDeadline (planOf t) j) w,
-      )
+      says-yes (times-says (planOf t) j) (record { release-in = omega arith; deadline-in = omega arith; window = w })
 
   -- ---- arcs go forward
 

@@ -1,6 +1,6 @@
 -- What is given is not refused, and a refusal is settled by its number and its place: no two of the code's cases say the same.
 use mathlib.Core.Path.{_≡_, refl, sym, _∙_, ap}
-use mathlib.Core.List.{List, [], _∷_}
+use mathlib.Core.List.{[], _∷_}
 use Prim.Native.Nat.{ℕ}
 use lib.ListN.{getD}
 use native.Mathlib.Omega.{arith}

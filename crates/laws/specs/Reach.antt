@@ -1,16 +1,15 @@
 -- Chains of arcs: `reaches` is the closure of the arcs, and on a table without a cycle the number of a job's ancestors
 -- rises along every arc.
-use mathlib.Core.Path.{_≡_, refl, sym, _∙_, ap}
+use mathlib.Core.Path.{_≡_, refl}
 use mathlib.Core.Logic.{_⊎_, inl, inr, ⊎-elim}
-use mathlib.Core.Bool.{Bool, true, false, _&&_, _||_}
-use Prim.Native.Nat.{ℕ, zero, suc, _+_, _≤_, _<_}
+use mathlib.Core.Bool.{true, false}
+use Prim.Native.Nat.{ℕ, zero, suc, _<_}
 use native.Mathlib.Decide.{ℕ-discrete}
 use native.Mathlib.Omega.{arith}
-use lib.Dec.{eqb}
-use Rattle.rules.specs.Rows.{any, count}
+use Rattle.rules.specs.Rows.{count}
 use Rattle.rules.specs.Table.{Table, jobCount, arcCount, before, after, precedes}
 use Rattle.rules.specs.Refusals.{reachesBy, reaches, onCycle}
-use Rattle.laws.specs.Tests.{Says, tested, clash, bool-says, says-map, says-and, says-or, eq-says, yes-says, yes-of, no-of}
+use Rattle.laws.specs.Tests.{Says, tested, clash, bool-says, says-map, says-and, says-or, eq-says, yes-says, yes-of}
 use Rattle.laws.specs.Rows.{any-says, count-most, count-lt}
 
 -- ---- arcs
@@ -171,14 +170,11 @@ module _ (t : Table) (inside : ArcsInside t) (acyclic : Acyclic t) where
       (λ k h. ancestor-reaches t inside (ancestor-trans (direct e) (reaches-ancestor t j k h)))
 
   -- a job is not among its own
-  few : (f : ℕ → Bool) (j : ℕ) → j < jobCount t → f j ≡ false → count f (jobCount t) < jobCount t
-  few f j l e =
-      omega (arith, count-lt f (λ k. true) (jobCount t) j l e refl (λ k h. refl), count-most (λ k. true) (jobCount t))
-
-  pub ancestors-few : (j : ℕ) → j < jobCount t → ancestors t j < jobCount t
-  unfolding ancestors
-  ancestors-few j l = few (λ i. reaches t i j) j l (not-itself j)
-
   pub descendants-few : (j : ℕ) → j < jobCount t → descendants t j < jobCount t
   unfolding descendants
-  descendants-few j l = few (λ i. reaches t j i) j l (not-itself j)
+  descendants-few j l =
+      omega (
+        arith,
+        count-lt (λ i. reaches t j i) (λ i. true) (jobCount t) j l (not-itself j) refl (λ i h. refl),
+        count-most (λ i. true) (jobCount t),
+      )

@@ -1,13 +1,12 @@
 -- What an accepted table and a plan within its bounds are known to be, as facts.
-use mathlib.Core.Path.{_≡_, refl, sym, _∙_, ap}
-use mathlib.Core.Logic.{_≢_, _⊎_, inl, inr, ⊎-elim}
-use mathlib.Core.Bool.{Bool, true, false, cond, not, _&&_, _||_}
+use mathlib.Core.Path.{_≡_, refl}
+use mathlib.Core.Logic.{⊎-elim}
+use mathlib.Core.Bool.{Bool, true, false}
 use mathlib.Core.List.{List, [], _∷_, _++_, append-assoc}
 use mathlib.Core.Option.{Option, none, some}
-use Prim.Native.Nat.{ℕ, zero, suc, _+_, _*_, _-_, _%_, _≤_, _<_}
+use Prim.Native.Nat.{ℕ, _+_, _*_, _%_, _≤_, _<_}
 use native.Mathlib.Omega.{arith}
 use lib.ListN.{length}
-use lib.Dec.{ltb, leb, eqb}
 use Rattle.rules.specs.Rows.{all, lowest}
 use Rattle.rules.specs.Table.{
   Table,
@@ -36,12 +35,9 @@ use Rattle.rules.specs.Table.{
   modifiedRelease,
   modifiedDeadline,
 }
-use Rattle.rules.specs.Times.{lift, newRelease, liftedDeadline, timesTo}
+use Rattle.rules.specs.Times.{lift, newRelease, liftedDeadline}
 use Rattle.rules.specs.Refusals.{
   Fault,
-  fault,
-  Outcome,
-  refused,
   gives,
   firstOf,
   unless,
@@ -65,9 +61,6 @@ use Rattle.rules.specs.Refusals.{
 }
 use Rattle.laws.specs.Tests.{
   Says,
-  so,
-  not-so,
-  clash,
   bool-says,
   says-map,
   says-and,
@@ -77,9 +70,8 @@ use Rattle.laws.specs.Tests.{
   eq-says,
   yes-says,
   no-says,
-  yes-of,
 }
-use Rattle.laws.specs.Rows.{Lowest, lowest-told, lowest-is, all-says}
+use Rattle.laws.specs.Rows.{Lowest, lowest-told, all-at}
 
 -- ---- refusals in order
 
@@ -97,12 +89,6 @@ pub first-of-append : (xs ys : List (Option Fault)) → firstOf (xs ++ ys) ≡ n
 first-of-append [] ys e = (refl, e)
 first-of-append (none ∷ xs) ys e = first-of-append xs ys e
 first-of-append (some f ∷ xs) ys e = let z : _≡_ {A = ℕ} 0 1 = cc in absurd (omega arith)
-
--- the stages of the front pass: what the rest says
-pub first-of-rest : (xs ys : List (Option Fault)) → firstOf xs ≡ none → firstOf (xs ++ ys) ≡ firstOf ys
-first-of-rest [] ys e = refl
-first-of-rest (none ∷ xs) ys e = first-of-rest xs ys e
-first-of-rest (some f ∷ xs) ys e = let z : _≡_ {A = ℕ} 0 1 = cc in absurd (omega arith)
 
 -- a stage that finds nothing
 pub demand-none : (b : Bool) (n : ℕ) → demand b n ≡ none → b ≡ true
@@ -213,16 +199,42 @@ accepted-none : (o : Option Fault) → accepted o ≡ true → o ≡ none
 accepted-none none e = refl
 accepted-none (some f) e = let z : _≡_ {A = ℕ} 0 1 = cc in absurd (omega arith)
 
-pub bounds-rows : (p : Plan) → planInBounds p ≡ true → RowsRight (p .table) × (length (p .times) ≡ 2 * jobCount (p .table))
-unfolding planInBounds
-bounds-rows p e =
-    let (a, b) =
-    yes-says
+-- what `timesRight` tests, as facts
+pub record TimesIn (p : Plan) (j : ℕ) : Type 0 where
+  pub release-in : modifiedRelease p j ≤ latest
+  pub deadline-in : modifiedDeadline p j ≤ latest
+  pub window : modifiedRelease p j + cost (p .table) j ≤ modifiedDeadline p j
+
+pub times-says : (p : Plan) (j : ℕ) → Says (TimesIn p j) (TimesIn p j → ⊥) (timesRight p j)
+unfolding timesRight
+times-says p j =
+    says-map
+    (λ w. record { release-in = w .0; deadline-in = w .1 .0; window = w .1 .1 })
+    (⊎-elim
+    (λ l h. omega (arith, h .release-in))
+    (⊎-elim (λ l h. omega (arith, h .deadline-in)) (λ l h. omega (arith, h .window))))
     (says-and
-    (bool-says (accepted (firstOf (countFaults (p .table) ++ rowFaults (p .table)))))
-    (says-and (eq-says (length (p .times)) (2 * jobCount (p .table))) (bool-says (all (timesRight p) (jobCount (p .table))))))
-    e in
-    (rows-right (p .table) (accepted-none (firstOf (countFaults (p .table) ++ rowFaults (p .table))) a), b .0)
+    (le-says (modifiedRelease p j) latest)
+    (says-and (le-says (modifiedDeadline p j) latest) (le-says (modifiedRelease p j + cost (p .table) j) (modifiedDeadline p j))))
+
+module _ (p : Plan) (e : planInBounds p ≡ true) where
+  bounds-parts : RowsRight (p .table)
+      × (length (p .times) ≡ 2 * jobCount (p .table)) × (all (timesRight p) (jobCount (p .table)) ≡ true)
+  unfolding planInBounds
+  bounds-parts =
+      let (values, rest) =
+      yes-says
+      (says-and
+      (bool-says (accepted (firstOf (countFaults (p .table) ++ rowFaults (p .table)))))
+      (says-and (eq-says (length (p .times)) (2 * jobCount (p .table))) (bool-says (all (timesRight p) (jobCount (p .table))))))
+      e in
+      (rows-right (p .table) (accepted-none (firstOf (countFaults (p .table) ++ rowFaults (p .table))) values), rest .0, rest .1)
+
+  pub bounds-rows : RowsRight (p .table) × (length (p .times) ≡ 2 * jobCount (p .table))
+  bounds-rows = (bounds-parts .0, bounds-parts .1)
+
+  pub bounds-times : (j : ℕ) → j < jobCount (p .table) → TimesIn p j
+  bounds-times j l = yes-says (times-says p j) (all-at (timesRight p) (jobCount (p .table)) (bounds-parts .2) j l)
 
 -- ---- an accepted table
 

@@ -1,7 +1,7 @@
 -- Laws of what is said of rows: all, any, counts, sums, the largest, the smallest, the lowest.
 use mathlib.Core.Path.{_≡_, refl, sym, _∙_, ap}
 use mathlib.Core.Logic.{_≢_, ⊎-elim}
-use mathlib.Core.Bool.{Bool, true, false, cond, _&&_, _||_}
+use mathlib.Core.Bool.{Bool, true, false, cond, _||_}
 use mathlib.Core.Option.{Option, none, some}
 use Prim.Native.Nat.{ℕ, zero, suc, _+_, _*_, _≤_, _<_, min, max}
 use native.Mathlib.Numerals.{add-one}
@@ -53,9 +53,6 @@ module _ (f : ℕ → Bool) where
   pub any-none : (n : ℕ) → ((k : ℕ) → k < n → f k ≡ false) → any f n ≡ false
   any-none n h = no-of (any-says _ _ f (λ i. bool-says (f i)) n) (λ w. clash (w .2) (h (w .0) (w .1)))
 
-  pub any-found : (n : ℕ) → any f n ≡ true → (k : ℕ) × (k < n) × (f k ≡ true)
-  any-found n = yes-says (any-says _ _ f (λ i. bool-says (f i)) n)
-
   pub any-not : (n : ℕ) → any f n ≡ false → (k : ℕ) → k < n → f k ≡ false
   any-not n = no-says (any-says _ _ f (λ i. bool-says (f i)) n)
 
@@ -77,10 +74,6 @@ module _ (f : ℕ → Bool) where
 -- ---- the step at the code's n + 1
 
 module _ (f : ℕ → Bool) (n : ℕ) where
-  pub all-more : all f (n + 1) ≡ (all f n && f n)
-  unfolding all
-  all-more = rw add-one
-
   pub any-more : any f (n + 1) ≡ (any f n || f n)
   unfolding any
   any-more = rw add-one
@@ -92,10 +85,6 @@ module _ (f : ℕ → Bool) (n : ℕ) where
 pub sum-more : (f : ℕ → ℕ) (n : ℕ) → sum f (n + 1) ≡ sum f n + f n
 unfolding sum
 sum-more f n = rw add-one
-
-pub lowest-more : (f : ℕ → Bool) (n : ℕ) → lowest f (n + 1) ≡ orElse (lowest f n) (f n) n
-unfolding lowest
-lowest-more f n = rw add-one
 
 -- ---- rows that agree
 
@@ -179,7 +168,7 @@ sum-none f n h = let z : sum f n ≤ 0 * n = sum-most f 0 n (λ k l. omega (arit
 -- ---- counts
 
 -- a count is the sum of ones
-count-sum : (f : ℕ → Bool) (n : ℕ) → count f n ≡ sum (λ k. cond (f k) 1 0) n
+pub count-sum : (f : ℕ → Bool) (n : ℕ) → count f n ≡ sum (λ k. cond (f k) 1 0) n
 unfolding count sum
 count-sum f zero = refl
 count-sum f (suc n) = rw (count-sum f n)
@@ -203,25 +192,26 @@ count-lt f g n x l p q h =
 
 -- ---- the largest and the smallest
 
+-- what holds of the value so far, and where a row passes of the value with it, holds after the row's turn
+turn : (P : ℕ → Type 0) (b : Bool) (so-far with-it : ℕ) → P so-far → (b ≡ true → P with-it) → P (cond b with-it so-far)
+turn P true so-far with-it p q = q refl
+turn P false so-far with-it p q = p
+
+-- rows that are the same where they pass have the same turn
+same-turn : (op : ℕ → ℕ → ℕ) (b : Bool) (m v w : ℕ) → (b ≡ true → v ≡ w) → cond b (op m v) m ≡ cond b (op m w) m
+same-turn op true m v w e = rw (e refl)
+same-turn op false m v w e = refl
+
 module _ (passes : ℕ → Bool) (f : ℕ → ℕ) (base : ℕ) where
-  -- what a turn with row n makes of the largest so far
-  turn-max : (b : Bool) (m v : ℕ) → m ≤ cond b (max m v) m
-  turn-max true m v = omega arith
-  turn-max false m v = omega arith
-
-  turn-min : (b : Bool) (m v : ℕ) → cond b (min m v) m ≤ m
-  turn-min true m v = omega arith
-  turn-min false m v = omega arith
-
   pub largest-base : (n : ℕ) → base ≤ largest passes f base n
   unfolding largest
   largest-base zero = omega arith
-  largest-base (suc n) = omega (arith, largest-base n, turn-max (passes n) (largest passes f base n) (f n))
+  largest-base (suc n) = turn (λ x. base ≤ x) (passes n) _ _ (largest-base n) (λ e. omega (arith, largest-base n))
 
   pub smallest-base : (n : ℕ) → smallest passes f base n ≤ base
   unfolding smallest
   smallest-base zero = omega arith
-  smallest-base (suc n) = omega (arith, smallest-base n, turn-min (passes n) (smallest passes f base n) (f n))
+  smallest-base (suc n) = turn (λ x. x ≤ base) (passes n) _ _ (smallest-base n) (λ e. omega (arith, smallest-base n))
 
   pub largest-at : (n k : ℕ) → k < n → passes k ≡ true → f k ≤ largest passes f base n
   unfolding largest
@@ -229,7 +219,7 @@ module _ (passes : ℕ → Bool) (f : ℕ → ℕ) (base : ℕ) where
   largest-at (suc n) k l e =
       elim (ℕ-discrete k n) [
         | yes q ↦ rw q (rw (ap passes (sym q) ∙ e) (omega arith))
-        | no q ↦ omega (arith, largest-at n k (omega arith) e, turn-max (passes n) (largest passes f base n) (f n))
+        | no q ↦ let ih = largest-at n k (omega arith) e in turn (λ x. f k ≤ x) (passes n) _ _ ih (λ p. omega arith)
       ]
 
   pub smallest-at : (n k : ℕ) → k < n → passes k ≡ true → smallest passes f base n ≤ f k
@@ -238,29 +228,23 @@ module _ (passes : ℕ → Bool) (f : ℕ → ℕ) (base : ℕ) where
   smallest-at (suc n) k l e =
       elim (ℕ-discrete k n) [
         | yes q ↦ rw q (rw (ap passes (sym q) ∙ e) (omega arith))
-        | no q ↦ omega (arith, smallest-at n k (omega arith) e, turn-min (passes n) (smallest passes f base n) (f n))
+        | no q ↦ let ih = smallest-at n k (omega arith) e in turn (λ x. x ≤ f k) (passes n) _ _ ih (λ p. omega arith)
       ]
 
   -- it is no more than what bounds the base and each row that passes
   pub largest-most : (n m : ℕ) → base ≤ m → ((k : ℕ) → k < n → passes k ≡ true → f k ≤ m) → largest passes f base n ≤ m
   unfolding largest
   largest-most zero m b h = b
-  largest-most (suc n) m b h = go (passes n) refl (largest-most n m b (λ k l. h k (omega arith)))
-    where
-      go : (c : Bool) → passes n ≡ c → largest passes f base n ≤ m
-          → cond c (max (largest passes f base n) (f n)) (largest passes f base n) ≤ m
-      go true e ih = omega (arith, h n (omega arith) e)
-      go false e ih = ih
+  largest-most (suc n) m b h =
+      let ih = largest-most n m b (λ k l. h k (omega arith)) in
+      turn (λ x. x ≤ m) (passes n) _ _ ih (λ e. omega (arith, h n (omega arith) e))
 
   pub smallest-least : (n m : ℕ) → m ≤ base → ((k : ℕ) → k < n → passes k ≡ true → m ≤ f k) → m ≤ smallest passes f base n
   unfolding smallest
   smallest-least zero m b h = b
-  smallest-least (suc n) m b h = go (passes n) refl (smallest-least n m b (λ k l. h k (omega arith)))
-    where
-      go : (c : Bool) → passes n ≡ c → m ≤ smallest passes f base n
-          → m ≤ cond c (min (smallest passes f base n) (f n)) (smallest passes f base n)
-      go true e ih = omega (arith, h n (omega arith) e)
-      go false e ih = ih
+  smallest-least (suc n) m b h =
+      let ih = smallest-least n m b (λ k l. h k (omega arith)) in
+      turn (λ x. m ≤ x) (passes n) _ _ ih (λ e. omega (arith, h n (omega arith) e))
 
 module _ (passes passes′ : ℕ → Bool) (f g : ℕ → ℕ) (base : ℕ) where
   pub largest-ext : (n : ℕ) → ((k : ℕ) → k < n → passes k ≡ passes′ k) → ((k : ℕ) → k < n → passes k ≡ true → f k ≡ g k)
@@ -269,13 +253,7 @@ module _ (passes passes′ : ℕ → Bool) (f g : ℕ → ℕ) (base : ℕ) wher
   largest-ext zero same eq = refl
   largest-ext (suc n) same eq =
       rw (← same n (omega arith), largest-ext n (λ k l. same k (omega arith)) (λ k l. eq k (omega arith)))
-      (go (passes n) (eq n (omega arith)))
-    where
-      go : (c : Bool) → (c ≡ true → f n ≡ g n)
-          → cond c (max (largest passes′ g base n) (f n)) (largest passes′ g base n)
-          ≡ cond c (max (largest passes′ g base n) (g n)) (largest passes′ g base n)
-      go true e = rw (e refl)
-      go false e = refl
+      (same-turn max (passes n) (largest passes′ g base n) (f n) (g n) (eq n (omega arith)))
 
   pub smallest-ext : (n : ℕ) → ((k : ℕ) → k < n → passes k ≡ passes′ k) → ((k : ℕ) → k < n → passes k ≡ true → f k ≡ g k)
       → smallest passes f base n ≡ smallest passes′ g base n
@@ -283,13 +261,7 @@ module _ (passes passes′ : ℕ → Bool) (f g : ℕ → ℕ) (base : ℕ) wher
   smallest-ext zero same eq = refl
   smallest-ext (suc n) same eq =
       rw (← same n (omega arith), smallest-ext n (λ k l. same k (omega arith)) (λ k l. eq k (omega arith)))
-      (go (passes n) (eq n (omega arith)))
-    where
-      go : (c : Bool) → (c ≡ true → f n ≡ g n)
-          → cond c (min (smallest passes′ g base n) (f n)) (smallest passes′ g base n)
-          ≡ cond c (min (smallest passes′ g base n) (g n)) (smallest passes′ g base n)
-      go true e = rw (e refl)
-      go false e = refl
+      (same-turn min (passes n) (smallest passes′ g base n) (f n) (g n) (eq n (omega arith)))
 
 -- ---- the lowest
 

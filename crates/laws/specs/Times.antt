@@ -1,7 +1,7 @@
 -- Modified times: on a table without a cycle they solve 01's equations, nothing else does, and they agree with the arcs.
 use mathlib.Core.Path.{_≡_, refl, sym, _∙_, ap}
-use mathlib.Core.Bool.{Bool, true, false}
-use mathlib.Core.List.{List, [], _∷_, _++_}
+use mathlib.Core.Bool.{Bool, true}
+use mathlib.Core.List.{List, [], _∷_}
 use Prim.Native.Nat.{ℕ, zero, suc, _+_, _*_, _-_, _≤_, _<_}
 use native.Mathlib.Decide.{ℕ-discrete}
 use native.Mathlib.Omega.{arith}
@@ -22,9 +22,6 @@ use Rattle.laws.specs.Rows.{
   smallest-ext,
 }
 use Rattle.laws.specs.Reach.{
-  Ancestor,
-  direct,
-  further,
   ArcsInside,
   Acyclic,
   precedes-inside,
@@ -32,7 +29,6 @@ use Rattle.laws.specs.Reach.{
   descendants,
   ancestors-rise,
   descendants-fall,
-  ancestors-few,
   descendants-few,
 }
 
@@ -159,21 +155,12 @@ module _ (t : Table) (inside : ArcsInside t) (acyclic : Acyclic t) where
             (precedes-inside t inside i j e .1) e,
       )
 
-later : (m : ℕ) (t : Table) (j : ℕ) → release t j ≤ releaseTo t m j
-unfolding releaseTo
-later zero t j = omega arith
-later (suc m) t j = largest-base (λ i. precedes t i j) (releaseTo t m) (release t j) (jobCount t)
-
 earlier : (m : ℕ) (t : Table) (j : ℕ) → liftedTo t m j ≤ lift + deadline t j
 unfolding liftedTo
 earlier zero t j = omega arith
 earlier (suc m) t j = smallest-base (λ i. precedes t j i) (λ i. liftedTo t m i - cost t i) (lift + deadline t j) (jobCount t)
 
--- a modified release is no earlier than the given one, a modified deadline no later
-pub release-later : (t : Table) (j : ℕ) → release t j ≤ newRelease t j
-unfolding newRelease
-release-later t j = later (jobCount t) t j
-
+-- a modified deadline is no later than the given one
 pub deadline-earlier : (t : Table) (j : ℕ) → liftedDeadline t j ≤ lift + deadline t j
 unfolding liftedDeadline
 deadline-earlier t j = earlier (jobCount t) t j

@@ -11,28 +11,17 @@ use borrow.Author.Tests.{le-leb, eq-eqb, ne-eqb, ltb-true, ltb-false}
 use Rattle.rules.specs.Rows.{all}
 use Rattle.rules.specs.Table.{Plan, latest, jobCount, cost, modifiedRelease, modifiedDeadline}
 use Rattle.rules.specs.Refusals.{Fault, accepted, timesRight, planInBounds}
-use Rattle.laws.specs.Tests.{le-says, says-and, says-agree, no-of}
+use Rattle.laws.specs.Tests.{le-says, says-agree, no-of}
+use Rattle.laws.specs.Refusals.{TimesIn, times-says}
 use Rattle.rows.specs.Lists.{table}
 use Rattle.rows.specs.Judged.{valuesFault}
 
 abbrev pub planWith : List ℕ → List ℕ → List ℕ → List ℕ → Plan
 planWith jobs arcs sections times = record { table = table jobs arcs sections; times = times }
 
--- what `timesRight` tests, as facts
-pub record TimesIn (p : Plan) (j : ℕ) : Type 0 where
-  pub release-in : modifiedRelease p j ≤ latest
-  pub deadline-in : modifiedDeadline p j ≤ latest
-  pub window : modifiedRelease p j + cost (p .table) j ≤ modifiedDeadline p j
-
 module _ (p : Plan) (j : ℕ) where
   pub times-no : (TimesIn p j → ⊥) → timesRight p j ≡ false
-  unfolding timesRight
-  times-no h =
-      no-of
-      (says-and
-      (le-says (modifiedRelease p j) latest)
-      (says-and (le-says (modifiedDeadline p j) latest) (le-says (modifiedRelease p j + cost (p .table) j) (modifiedDeadline p j))))
-      (λ w. h (record { release-in = w .0; deadline-in = w .1 .0; window = w .1 .1 }))
+  times-no = no-of (times-says p j)
 
   pub times-crossed : ltb (modifiedDeadline p j) (modifiedRelease p j) ≡ true → timesRight p j ≡ false
   times-crossed e =

@@ -1,12 +1,12 @@
 -- 01, "Density test".
-use mathlib.Core.Bool.{Bool, true, false, cond, _&&_, _||_, not}
-use mathlib.Core.List.{List, [], _∷_}
+use mathlib.Core.Bool.{Bool, false, cond, _&&_, _||_, not}
+use mathlib.Core.List.{[], _∷_}
 use mathlib.Core.Option.{Option, none, some}
 use Prim.Native.Nat.{ℕ, zero, suc, _+_, _*_, _/_, _%_}
 use lib.Dec.{ltb, leb, eqb}
 use Rattle.rules.specs.Rows.{count, sum, largest, first}
 use Rattle.rules.specs.Table.{Plan, jobCount, cost, sectionCount, owner, resource, ticksOf, span}
-use Rattle.rules.specs.Refusals.{Fault, Outcome, refused, gives, unless, firstOf, demand, planInBounds}
+use Rattle.rules.specs.Refusals.{Fault, Outcome, unless, firstOf, demand, planInBounds}
 use Rattle.rules.specs.Tick.{ceiling}
 
 -- ---- places
@@ -32,6 +32,7 @@ unfoldable pub gcd : ℕ → ℕ → ℕ
 unfolding gcdBy
 gcd a b = gcdBy (suc b) a b
 
+-- The least common multiple of two numbers.
 unfoldable pub lcm : ℕ → ℕ → ℕ
 unfolding gcd
 lcm a b = a / gcd a b * b
@@ -42,10 +43,12 @@ unfolding lcm
 multipleTo p zero = 1
 multipleTo p (suc n) = lcm (multipleTo p n) (span p n)
 
+-- "The least common multiple of all D."
 unfoldable pub multiple : Plan → ℕ
 unfolding multipleTo
 multiple p = multipleTo p (jobCount (p .table))
 
+-- What the common multiple may be at most: 14 is given where it "exceeds 1,000,000,000".
 abbrev pub mostMultiple : ℕ
 mostMultiple = 1_000_000_000
 
@@ -84,6 +87,7 @@ abbrev pub placeOrYes : Plan → Option ℕ → ℕ
 placeOrYes p none = 0
 placeOrYes p (some j) = placeOfJob p j
 
+-- The lowest failing place over the common multiple m: that of the first job, as they are sorted, whose place fails.
 unfoldable pub failingPlace : Plan → ℕ → ℕ
 unfolding first sortsBefore fails placeOfJob
 failingPlace p m = placeOrYes p (first (sortsBefore p) (fails p m) (jobCount (p .table)))
@@ -93,6 +97,7 @@ unfoldable pub densityFault : Plan → Option Fault
 unfolding planInBounds multiple
 densityFault p = firstOf (demand (planInBounds p) 12 ∷ demand (leb (multiple p) mostMultiple) 14 ∷ [])
 
+-- The density test of a plan: its refusal, or the lowest failing place, which is 0 with a yes.
 unfoldable pub density : Plan → Outcome ℕ
 unfolding densityFault failingPlace multiple
 density p = unless (densityFault p) (failingPlace p (multiple p))

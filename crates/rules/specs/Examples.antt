@@ -1,14 +1,14 @@
 -- 01, "Shelf examples": those marked P, every fact stated of each, proved of the rules by computation.
-use mathlib.Core.Path.{_≡_, refl}
+use mathlib.Core.Path.{refl}
 use mathlib.Core.Bool.{Bool, true, false}
 use mathlib.Core.List.{List, [], _∷_}
-use mathlib.Core.Option.{Option, none, some}
+use mathlib.Core.Option.{none, some}
 use Prim.Native.Nat.{ℕ}
-use lib.IntN.{ℤ, pos, negsuc}
+use lib.IntN.{pos, negsuc}
 use Rattle.rules.specs.Claims.{Claim, _is_, AllHold, _&_}
-use Rattle.rules.specs.Table.{Table, Plan, State, ticksOf}
+use Rattle.rules.specs.Table.{Table, Plan}
 use Rattle.rules.specs.Times.{newRelease, newDeadline}
-use Rattle.rules.specs.Refusals.{Outcome, refused, gives, fault, check, planOf}
+use Rattle.rules.specs.Refusals.{refused, gives, fault, check, planOf}
 use Rattle.rules.specs.Text.{bytesOf, textOf, read}
 use Rattle.rules.specs.Run.{start, afterReports, schedule, endState, lateness, waited, longestLater}
 use Rattle.rules.specs.Density.{placeOfJob, multiple, densitySum, density}
@@ -16,6 +16,8 @@ use Rattle.rules.specs.Output.{answer}
 
 -- ---- the tables
 
+-- "Jobs (release, cost, deadline): 0 (0, 4, 20), 1 (2, 2, 10), 2 (0, 1, 12); arc 1 to 2; sections: job 0 resource 0 from 1
+-- to 4, job 1 resource 0 from 0 to 1."
 unfoldable pub p1 : Table
 p1 = record {
   jobs = 0 ∷ 4 ∷ 20 ∷ 2 ∷ 2 ∷ 10 ∷ 0 ∷ 1 ∷ 12 ∷ [];
@@ -23,22 +25,28 @@ p1 = record {
   sections = 0 ∷ 0 ∷ 1 ∷ 4 ∷ 1 ∷ 0 ∷ 0 ∷ 1 ∷ [];
 }
 
+-- "Modified releases 0, 2, 2; deadlines 20, 10, 12."
 unfoldable pub p1-plan : Plan
 unfolding p1
 p1-plan = record { table = p1; times = 0 ∷ 20 ∷ 2 ∷ 10 ∷ 2 ∷ 12 ∷ [] }
 
+-- "Arcs 0 to 1 and 1 to 0."
 unfoldable pub p4 : Table
 p4 = record { jobs = 0 ∷ 1 ∷ 10 ∷ 0 ∷ 1 ∷ 10 ∷ []; arcs = 0 ∷ 1 ∷ 1 ∷ 0 ∷ []; sections = [] }
 
+-- "One job (0, 5, 5)", and with another deadline.
 unfoldable pub p5 : ℕ → Table
 p5 due = record { jobs = 0 ∷ 5 ∷ due ∷ []; arcs = []; sections = [] }
 
+-- "Jobs (0, 3, 10), (0, 4, 6), arc 0 to 1."
 unfoldable pub p6 : Table
 p6 = record { jobs = 0 ∷ 3 ∷ 10 ∷ 0 ∷ 4 ∷ 6 ∷ []; arcs = 0 ∷ 1 ∷ []; sections = [] }
 
+-- "Jobs (0, 1, 100), (0, 5, 3), arc 0 to 1."
 unfoldable pub p7 : Table
 p7 = record { jobs = 0 ∷ 1 ∷ 100 ∷ 0 ∷ 5 ∷ 3 ∷ []; arcs = 0 ∷ 1 ∷ []; sections = [] }
 
+-- "One job (3, 1, 4)."
 unfoldable pub p8 : Table
 p8 = record { jobs = 3 ∷ 1 ∷ 4 ∷ []; arcs = []; sections = [] }
 
@@ -47,11 +55,13 @@ unfoldable pub p9 : ℕ → ℕ → ℕ → ℕ → Table
 p9 from₁ to₁ from₂ to₂ = record
     { jobs = 0 ∷ 5 ∷ 9 ∷ []; arcs = []; sections = 0 ∷ 0 ∷ from₁ ∷ to₁ ∷ 0 ∷ 0 ∷ from₂ ∷ to₂ ∷ [] }
 
+-- "Jobs (0, 3, 3), (0, 3, 5), no arcs."
 unfoldable pub p10 : Table
 p10 = record { jobs = 0 ∷ 3 ∷ 3 ∷ 0 ∷ 3 ∷ 5 ∷ []; arcs = []; sections = [] }
 
 -- ---- the reports
 
+-- seven ticks, none silent
 unfoldable pub all-answered : List Bool
 all-answered = false ∷ false ∷ false ∷ false ∷ false ∷ false ∷ false ∷ []
 
@@ -61,6 +71,7 @@ tick-5-silent = false ∷ false ∷ false ∷ false ∷ false ∷ true ∷ false
 
 -- ---- the examples
 
+-- What 01 states of each example, beside what the rules compute.
 unfoldable pub examples : List Claim
 unfolding p1 p1-plan p4 p5 p6 p7 p8 p9 p10 all-answered tick-5-silent
 examples =

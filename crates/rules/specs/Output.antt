@@ -1,10 +1,10 @@
 -- 01, "Shelf examples", its last part: what the program prints.
-use mathlib.Core.Bool.{Bool, true, false, cond}
+use mathlib.Core.Bool.{cond}
 use mathlib.Core.List.{List, [], _∷_, _++_}
-use Prim.Native.Nat.{ℕ, zero, suc, _+_, _-_}
+use Prim.Native.Nat.{ℕ, zero, suc, _+_}
 use lib.IntN.{ℤ, pos, negsuc}
 use lib.Dec.{eqb}
-use Rattle.rules.specs.Table.{Table, Plan, State, jobCount, modifiedRelease, modifiedDeadline, mark, finish}
+use Rattle.rules.specs.Table.{Plan, State, jobCount, modifiedRelease, modifiedDeadline, mark, finish}
 use Rattle.rules.specs.Refusals.{Fault, Outcome, refused, gives, andThen, check}
 use Rattle.rules.specs.Text.{bytesOf, lf, digits, line, read}
 use Rattle.rules.specs.Run.{endState, lateness}
@@ -47,6 +47,7 @@ unfoldable pub refusalLines : Fault → List ℕ
 unfolding bytesOf line
 refusalLines f = line (bytesOf "refusal=") (f .number) ++ line (bytesOf "place=") (f .place)
 
+-- What is printed of an outcome: the refusal, or what is given, as `show` writes it.
 abbrev pub printed : {A : Type 0} → (A → List ℕ) → Outcome A → List ℕ
 printed show (refused f) = refusalLines f
 printed show (gives a) = show a

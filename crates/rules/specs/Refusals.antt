@@ -65,6 +65,7 @@ pub record Fault : Type 0 where
   pub number : ℕ
   pub place : ℕ
 
+-- The refusal with number n, at place k.
 abbrev pub fault : ℕ → ℕ → Fault
 fault n k = record { number = n; place = k }
 
@@ -102,6 +103,7 @@ placeOf Bounds = 0
 placeOf Finished = 0
 placeOf Multiple = 0
 
+-- 01's number and place of the code's refusal.
 abbrev pub faultOf : Refusal → Fault
 faultOf r = fault (numberOf r) (placeOf r)
 
@@ -121,6 +123,7 @@ firstOf [] = none
 firstOf (none ∷ later) = firstOf later
 firstOf (some f ∷ later) = some f
 
+-- The refusal, where there is one; else a is given.
 abbrev pub unless : {A : Type 0} → Option Fault → A → Outcome A
 unless none a = gives a
 unless (some f) a = refused f
@@ -136,12 +139,15 @@ atRow n (some k) = some (fault n k)
 
 -- ---- 2, 3, 4: counts and lengths
 
+-- A right count of jobs: 1 to 64.
 abbrev pub jobsRight : ℕ → Bool
 jobsRight n = leb 1 n && leb n mostJobs
 
+-- A right count of arcs: 0 to 256.
 abbrev pub arcsRight : ℕ → Bool
 arcsRight n = leb n mostArcs
 
+-- A right count of sections: 0 to 128.
 abbrev pub sectionsRight : ℕ → Bool
 sectionsRight n = leb n mostSections
 
@@ -170,6 +176,7 @@ sectionOut t s =
     leb (jobCount t) (owner t s)
     || (leb resources (resource t s) || (leb (to t s) (from t s) || ltb (cost t (owner t s)) (to t s)))
 
+-- 5, 6 and 7, each at its lowest row.
 unfoldable pub rowFaults : Table → List (Option Fault)
 unfolding lowest jobOut arcOut sectionOut
 rowFaults t =
@@ -184,6 +191,7 @@ rowFaults t =
 unfoldable pub overlap : Table → ℕ → ℕ → Bool
 overlap t k s = ltb (from t k) (to t s) && ltb (from t s) (to t k)
 
+-- Section k lies within section s; equal ranges lie within one another.
 unfoldable pub within : Table → ℕ → ℕ → Bool
 within t k s = leb (from t s) (from t k) && leb (to t k) (to t s)
 
@@ -224,6 +232,7 @@ unfoldable pub tooShort : Table → ℕ → Bool
 unfolding newRelease liftedDeadline
 tooShort t j = ltb (liftedDeadline t j) (lift + newRelease t j + cost t j)
 
+-- 8, 9 and 10, each at its lowest row.
 unfoldable pub planFaults : Table → List (Option Fault)
 unfolding lowest clashes onCycle tooShort
 planFaults t =
@@ -244,6 +253,7 @@ unfoldable pub planOf : Table → Plan
 unfolding timesTo
 planOf t = record { table = t; times = timesTo t (jobCount t) }
 
+-- The table check: its first refusal, or the plan that the table gives.
 unfoldable pub check : Table → Outcome Plan
 unfolding checkFault planOf
 check t = unless (checkFault t) (planOf t)
@@ -256,6 +266,7 @@ room needed lent = demand (leb needed lent) 11
 
 -- ---- 12: plans and states handed in
 
+-- No refusal was found.
 abbrev pub accepted : Option Fault → Bool
 accepted none = true
 accepted (some f) = false
@@ -293,6 +304,7 @@ stateInBounds p st =
 abbrev pub finished : Plan → State → ℕ → Bool
 finished p st j = eqb (executed st j) (cost (p .table) j)
 
+-- "Every job has finished."
 unfoldable pub allFinished : Plan → State → Bool
 unfolding all
 allFinished p st = all (finished p st) (jobCount (p .table))

@@ -1,14 +1,13 @@
 -- The smallest tables on which slips show that no P example of 01 catches: what the rules say of each.
-use mathlib.Core.Path.{_≡_, refl}
-use mathlib.Core.Bool.{Bool, true, false}
+use mathlib.Core.Path.{refl}
+use mathlib.Core.Bool.{false}
 use mathlib.Core.List.{List, [], _∷_}
-use mathlib.Core.Option.{Option, none, some}
-use Prim.Native.Nat.{ℕ}
-use lib.IntN.{ℤ, pos, negsuc}
+use mathlib.Core.Option.{some}
+use lib.IntN.{pos, negsuc}
 use Rattle.rules.specs.Claims.{Claim, _is_, AllHold, _&_}
-use Rattle.rules.specs.Table.{Table, Plan}
+use Rattle.rules.specs.Table.{Table}
 use Rattle.rules.specs.Times.{newDeadline}
-use Rattle.rules.specs.Refusals.{Outcome, refused, gives, fault, check, planOf}
+use Rattle.rules.specs.Refusals.{refused, gives, fault, check, planOf}
 use Rattle.rules.specs.Text.{bytesOf, read}
 use Rattle.rules.specs.Run.{start, schedule, endState, lateness}
 use Rattle.rules.specs.Density.{density}
@@ -44,6 +43,7 @@ unfoldable pub behindCycle : Table
 behindCycle = record
     { jobs = 0 ∷ 1 ∷ 9 ∷ 0 ∷ 1 ∷ 9 ∷ 0 ∷ 1 ∷ 9 ∷ []; arcs = 1 ∷ 2 ∷ 2 ∷ 1 ∷ 2 ∷ 0 ∷ []; sections = [] }
 
+-- What the rules say of each table, and of texts that a slip of the reader would take otherwise.
 unfoldable pub slips : List Claim
 unfolding overtaking chain early standing equals behindCycle
 slips =

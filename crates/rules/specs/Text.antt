@@ -1,8 +1,8 @@
 -- 01, "The text": how a table is written as lines of key=value, and how such a text is read.
-use mathlib.Core.Bool.{Bool, true, false, cond, _&&_, _||_}
+use mathlib.Core.Bool.{Bool, cond, _&&_, _||_}
 use mathlib.Core.List.{List, [], _∷_, _++_}
 use Prim.Native.Nat.{ℕ, zero, suc, _+_, _*_, _-_, _/_, _%_}
-use Prim.Native.Char.{Char, code}
+use Prim.Native.Char.{code}
 use Prim.Native.String as String
 use Prim.Native.String.{String}
 use lib.ListN.{length, getD}
@@ -17,6 +17,7 @@ unfoldable pub bytesOf : String → List ℕ
 bytesOf String.[] = []
 bytesOf (String._∷_ c s) = code c ∷ bytesOf s
 
+-- The byte LF, which ends each line.
 abbrev pub lf : ℕ
 lf = 10
 
@@ -38,6 +39,7 @@ keys =
     ∷ bytesOf "to="
     ∷ []
 
+-- The key at place k of the table of keys; none behind the twelve.
 unfoldable pub key : ℕ → List ℕ
 unfolding keys
 key k = getD keys k []
@@ -49,12 +51,15 @@ pub record Part : Type 0 where
   pub right : ℕ → Bool
   pub refusal : ℕ
 
+-- "`jobs`; for each job `release`, `cost`, `deadline`."
 abbrev pub jobPart : Part
 jobPart = record { head = 0; width = jobWidth; right = jobsRight; refusal = 2 }
 
+-- "`arcs`; for each arc `before`, `after`."
 abbrev pub arcPart : Part
 arcPart = record { head = 4; width = arcWidth; right = arcsRight; refusal = 3 }
 
+-- "`sections`; for each section `job`, `resource`, `from`, `to`."
 abbrev pub sectionPart : Part
 sectionPart = record { head = 7; width = sectionWidth; right = sectionsRight; refusal = 4 }
 
@@ -87,6 +92,7 @@ unfolding line key
 valueLines b i [] = []
 valueLines b i (v ∷ vs) = line (keyAt b i) v ++ valueLines b (i + 1) vs
 
+-- The text of a part: the line of its count, then a line for each value.
 unfoldable pub partText : Part → List ℕ → List ℕ
 unfolding line key valueLines
 partText b vs = line (key (b .head)) (length vs / b .width) ++ valueLines b 0 vs
@@ -104,6 +110,7 @@ pub data Front : Type 0 where
   value : ℕ → List ℕ → Front
   wrong : List ℕ → Front
 
+-- What is made of a front: by `found` where it is a value, by `not-so` where it is wrong.
 abbrev pub onValue : {A : Type 0} → Front → (ℕ → List ℕ → A) → (List ℕ → A) → A
 onValue (value v rest) found not-so = found v rest
 onValue (wrong rest) found not-so = not-so rest
@@ -114,6 +121,7 @@ afterBytes [] t go = go t
 afterBytes (x ∷ xs) [] go = wrong []
 afterBytes (x ∷ xs) (y ∷ ys) go = cond (eqb y x) (afterBytes xs ys go) (wrong (y ∷ ys))
 
+-- The byte is one of 0 to 9.
 unfoldable pub isDigit : ℕ → Bool
 isDigit b = leb 48 b && leb b 57
 
@@ -130,6 +138,7 @@ numberFrom n (d ∷ ds) =
     (cond (eqb n 0 || ltb mostNumber (n * 10 + (d - 48))) (wrong (d ∷ ds)) (numberFrom (n * 10 + (d - 48)) ds))
     (value n (d ∷ ds))
 
+-- "A number is decimal, no leading zero except 0 itself, at most 4,294,967,295": its value, and what follows its last digit.
 unfoldable pub number : List ℕ → Front
 unfolding isDigit numberFrom
 number [] = wrong []
@@ -146,6 +155,7 @@ pub record Taken : Type 0 where
   pub next : ℕ
   pub rest : List ℕ
 
+-- The value v before those that were read after it; a refusal stays.
 abbrev pub prepend : ℕ → Outcome Taken → Outcome Taken
 prepend v (refused f) = refused f
 prepend v (gives k) = gives record { values = v ∷ k .values; next = k .next; rest = k .rest }

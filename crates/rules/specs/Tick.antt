@@ -1,5 +1,5 @@
 -- 01, "One tick": who runs in a tick, and what the tick writes.
-use mathlib.Core.Bool.{Bool, true, false, cond, _&&_, _||_}
+use mathlib.Core.Bool.{Bool, true, cond, _&&_, _||_}
 use mathlib.Core.Option.{Option, none, some}
 use Prim.Native.Nat.{ℕ, _+_}
 use lib.ListN.{set}
@@ -53,11 +53,12 @@ tightest p q =
     (λ s. eqb (resource (p .table) s) q)
     (sectionCount (p .table))
 
--- "A resource's ceiling is the smallest relative deadline of all jobs with a section on it, finished or not."
+-- The relative deadline of a section's owner, where there is a section.
 abbrev pub spanOf : Plan → Option ℕ → Option ℕ
 spanOf p none = none
 spanOf p (some s) = some (span p (owner (p .table) s))
 
+-- "A resource's ceiling is the smallest relative deadline of all jobs with a section on it, finished or not."
 unfoldable pub ceiling : Plan → ℕ → Option ℕ
 unfolding tightest
 ceiling p q = spanOf p (tightest p q)
@@ -95,10 +96,12 @@ mayStart p st j = all (λ q. clears p (span p j) q (held p st q)) resources
 
 -- ---- the choice
 
+-- "The first pending job in the order."
 unfoldable pub firstPending : Plan → State → Option ℕ
 unfolding first comesBefore pending
 firstPending p st = first (comesBefore p) (pending p st) (jobCount (p .table))
 
+-- "The first started pending job in the order."
 unfoldable pub firstStarted : Plan → State → Option ℕ
 unfolding first comesBefore pending started
 firstStarted p st = first (comesBefore p) (λ j. pending p st j && started st j) (jobCount (p .table))
@@ -109,6 +112,7 @@ abbrev pub choose : Plan → State → Option ℕ → Option ℕ
 choose p st none = none
 choose p st (some j) = cond (started st j || mayStart p st j) (some j) (firstStarted p st)
 
+-- Who runs in the next tick; nobody where it is idle.
 unfoldable pub chosen : Plan → State → Option ℕ
 unfolding firstPending firstStarted started mayStart
 chosen p st = choose p st (firstPending p st)
@@ -129,6 +133,7 @@ unfolding any precedes endsBadly
 endsStale p st j silent =
     endsBadly p st j silent || any (λ i. precedes (p .table) i j && eqb (mark st i) 2) (jobCount (p .table))
 
+-- Marks: 2 is stale, 1 is fresh.
 abbrev pub markFor : Bool → ℕ
 markFor stale = cond stale 2 1
 

@@ -17,6 +17,7 @@ releaseTo t (suc depth) j = largest (λ i. precedes t i j) (releaseTo t depth) (
 abbrev pub lift : ℕ
 lift = mostJobs * mostCost
 
+-- The instant that a lifted number stands for.
 abbrev pub instantOf : ℕ → ℤ
 instantOf lifted = subℕ lifted lift
 
@@ -27,16 +28,17 @@ unfolding smallest precedes
 liftedTo t zero j = lift + deadline t j
 liftedTo t (suc depth) j = smallest (λ i. precedes t j i) (λ i. liftedTo t depth i - cost t i) (lift + deadline t j) (jobCount t)
 
--- Without a cycle no chain of arcs has as many arcs as there are jobs, so that depth cuts nothing.
+-- The modified release of a job. Without a cycle no chain of arcs has as many arcs as there are jobs, so that depth cuts nothing.
 unfoldable pub newRelease : Table → ℕ → ℕ
 unfolding releaseTo
 newRelease t j = releaseTo t (jobCount t) j
 
+-- The modified deadline of a job, lifted, to the same depth.
 unfoldable pub liftedDeadline : Table → ℕ → ℕ
 unfolding liftedTo
 liftedDeadline t j = liftedTo t (jobCount t) j
 
--- The instant itself, below zero or not.
+-- The modified deadline itself, below zero or not.
 unfoldable pub newDeadline : Table → ℕ → ℤ
 unfolding liftedDeadline
 newDeadline t j = instantOf (liftedDeadline t j)

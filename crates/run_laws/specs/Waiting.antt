@@ -9,20 +9,7 @@ use native.Mathlib.Decide.{ℕ-discrete, decLt, decLe}
 use native.Mathlib.Omega.{arith}
 use lib.Dec.{eqb}
 use Rattle.rules.specs.Rows.{count}
-use Rattle.laws.specs.Tests.{
-  Says,
-  so,
-  not-so,
-  clash,
-  lt-says,
-  eq-says,
-  says-map,
-  says-and,
-  says-yes,
-  yes-says,
-  yes-of,
-  no-of,
-}
+use Rattle.laws.specs.Tests.{Says, so, not-so, clash, lt-says, eq-says, says-map, says-and, yes-says, yes-of, no-of}
 use Rattle.laws.specs.Rows.{below-suc, count-none}
 use Rattle.run_laws.specs.Theory.{
   Jobs,

@@ -32,7 +32,7 @@ use Rattle.rules.specs.declared.Refusal.{Refusal}
 use Rattle.rules.specs.declared.Refusal.the-variants.{Room}
 use Rattle.laws.specs.Answers.{not-both, fault-settles}
 use Rattle.laws.specs.Text.{Right, counts-is, TextOf, read-back, read-is}
-use Rattle.laws.specs.Lines.{RightText, FirstWrong, refused-at, right-none, from-one}
+use Rattle.laws.specs.Lines.{RightText, FirstWrong, refused-at, right-none, from-one, one-first}
 use Rattle.text.specs.declared.Reading.{Reading}
 use Rattle.text.specs.declared.Reading.the-variants.{Refused, Counts}
 use Rattle.text.specs.declared.Put.{Put}
@@ -252,3 +252,16 @@ room-comes-last {text} {jobs} {arcs} {sections} p =
     by (refused f) e q =
         let g : f ≡ fault 11 0 = cc (text-refused text jobs arcs sections f e) in
         absurd (from-one (refused-at text (fault 11 0) (e ∙ ap refused g)))
+
+-- Where a line is the first wrong one, the text is refused there: not for room, whose place is 0.
+pub wrong-is-refused : {text jobs arcs sections jobs′ arcs′ sections′ : List ℕ} {n : ℕ} (r : Reading)
+    → Reads text jobs arcs sections jobs′ arcs′ sections′ r → FirstWrong text n → (f : Refusal) × (r ≡ Refused f) × (placeOf f ≡ n)
+wrong-is-refused {n = n} (Counts j a s) p w = absurd (read-has-none p n w)
+wrong-is-refused {text} {jobs} {arcs} {sections} {n = n} (Refused f) p w = (f, refl, by (rules.read text) refl)
+  where
+    by : (o : Outcome Table) → rules.read text ≡ o → placeOf f ≡ n
+    by (gives t) e = absurd (right-none text n (t, read-is text t e) w)
+    by (refused g) e =
+        let q : g ≡ faultOf f =
+        cc (text-refused text jobs arcs sections g e, counted-refused (readInto text jobs arcs sections) (faultOf f) (p .answer)) in
+        one-first (rw q at (refused-at text g e)) w

@@ -1,11 +1,11 @@
 -- 12, then 14, else the verdict over the common multiple.
+use mathlib.Core.Path.{sym, _∙_}
 use native.Mathlib.Omega.{arith}
 use borrow.Author.Needs.{needs}
 use borrow.Author.Tests.{not-true, not-false}
-use Rattle.plan.specs.Bounds.{planWith}
 use Rattle.density.specs.Multiple.{told-within}
 use Rattle.density.specs.Sums.{JobsIn, SectionsIn}
-use Rattle.density.specs.Bounds.{in-bounds, jobs-in, sections-in}
+use Rattle.density.specs.Bounds.{jobs-in, sections-in}
 use Rattle.density.specs.Promise.{answers-bounds, answers-multiple, answers-place}
 use Rattle.density.proofs.density.Statement.{statement}
 use Rattle.density.proofs.density.Tie as tie
@@ -15,9 +15,9 @@ bounded : (c : tie.Else1)
     JobsIn (a .jobs .now) (a .times .now) × SectionsIn (a .sections .now) (a .times .now)
 bounded c =
     let a = c .before .before .before .before .before .before .args in
-    let B = in-bounds (planWith (a .jobs .now) (a .arcs .now) (a .sections .now) (a .times .now)) (c .before .plan-in-bounds .ensures) (not-false _ (c .if1 .left)) in (
-      jobs-in (a .jobs .now) (a .arcs .now) (a .sections .now) (a .times .now) B,
-      sections-in (a .jobs .now) (a .arcs .now) (a .sections .now) (a .times .now) B,
+    let e = sym (c .before .plan-in-bounds .ensures) ∙ not-false _ (c .if1 .left) in (
+      jobs-in (a .jobs .now) (a .arcs .now) (a .sections .now) (a .times .now) e,
+      sections-in (a .jobs .now) (a .arcs .now) (a .sections .now) (a .times .now) e,
     )
 
 plan-in-bounds-requires : tie.Need-plan-in-bounds-requires

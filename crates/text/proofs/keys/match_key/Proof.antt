@@ -1,7 +1,6 @@
 -- `text::keys::match_key` meets its contract: the part of the table that it lends is the key.
 use borrow.Author.Needs.{needs}
 use native.Mathlib.Omega.{arith}
-use Rattle.text.proofs.Table.{key-at}
 use Rattle.text.proofs.Table.{key-at, lent-key}
 use Rattle.text.proofs.keys.match_key.Statement.{statement}
 use Rattle.text.proofs.keys.match_key.Tie as tie

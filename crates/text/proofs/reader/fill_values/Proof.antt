@@ -1,11 +1,10 @@
 -- `text::reader::fill_values` meets its contract: the values that are done stand at the front of the list.
 use borrow.Author.Needs.{needs}
-use Prim.Native.Nat.{_-_}
+use Prim.Native.Nat.{ℕ, _-_}
 use native.Mathlib.Omega.{arith}
 use Rattle.text.specs.Parts.{partOf}
 use Rattle.text.proofs.Walking.{line-at, Filling, ready, goes-on, store, filled}
 use mathlib.Core.List.{List}
-use Prim.Native.Nat.{ℕ}
 use lib.ListN.{drop, length-drop}
 use Rattle.rules.specs.Text.{key, lineValue}
 use Rattle.text.specs.declared.leaves.Found.the-variants.{Value}

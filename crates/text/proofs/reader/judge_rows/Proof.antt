@@ -1,12 +1,11 @@
 -- `text::reader::judge_rows` meets its contract: the values that are done, and what is left to read, make the whole.
 use borrow.Author.Needs.{needs}
 use mathlib.Core.Path.{_≡_}
-use Prim.Native.Nat.{_+_, _*_, _-_, _≤_}
+use Prim.Native.Nat.{ℕ, _+_, _*_, _-_, _≤_}
 use native.Mathlib.Omega.{arith}
 use Rattle.text.specs.Parts.{partOf}
 use Rattle.text.proofs.Walking.{line-at, Walking, begun, stopped, walked, ended}
 use mathlib.Core.List.{List}
-use Prim.Native.Nat.{ℕ}
 use lib.ListN.{drop, length-drop}
 use Rattle.rules.specs.Text.{key, lineValue}
 use Rattle.text.specs.declared.leaves.Found.the-variants.{Value}

@@ -1,9 +1,9 @@
--- Each list that is handed on is a front of its array, as long as it was read.
+-- Each list that is handed on is a front of its array, as long as it was read or lent.
 use native.Mathlib.Omega.{arith}
 use lib.ListN.{length-take}
 use borrow.Author.Needs.{needs}
-use Rattle.cases_plan.proofs.bounds_case.Statement.{statement}
-use Rattle.cases_plan.proofs.bounds_case.Tie as tie
+use Rattle.cases_plan.proofs.case.Statement.{statement}
+use Rattle.cases_plan.proofs.case.Tie as tie
 
 places-requires : tie.Need-places-requires
 places-requires c κs = search needs
@@ -38,11 +38,11 @@ slice-aggregate-list-3 c = search needs
 list-requires-3 : tie.Need-list-requires-3
 list-requires-3 c κs = search needs
 
-slice-aggregate-list-4 : tie.Need-slice-aggregate-list-4
-slice-aggregate-list-4 c = search needs
+slice-aggregate-times-of : tie.Need-slice-aggregate-times-of
+slice-aggregate-times-of c = search needs
 
-list-requires-4 : tie.Need-list-requires-4
-list-requires-4 c κs = search needs
+times-of-requires : tie.Need-times-of-requires
+times-of-requires c κs = search needs
 
 slice-aggregate-count : tie.Need-slice-aggregate-count
 slice-aggregate-count c = search needs
@@ -53,35 +53,35 @@ count-requires c κs = search needs
 array-share-prefix-jobs : tie.Need-array-share-prefix-jobs
 array-share-prefix-jobs c = search needs
 
-slice-aggregate-bounds : tie.Need-slice-aggregate-bounds
-slice-aggregate-bounds c = rw length-take (omega arith)
+slice-aggregate-answer : tie.Need-slice-aggregate-answer
+slice-aggregate-answer c = rw length-take (omega arith)
 
 array-share-prefix-arcs : tie.Need-array-share-prefix-arcs
 array-share-prefix-arcs c = search needs
 
-slice-aggregate-bounds-2 : tie.Need-slice-aggregate-bounds-2
-slice-aggregate-bounds-2 c = rw length-take (omega arith)
+slice-aggregate-answer-2 : tie.Need-slice-aggregate-answer-2
+slice-aggregate-answer-2 c = rw length-take (omega arith)
 
 array-share-prefix-sections : tie.Need-array-share-prefix-sections
 array-share-prefix-sections c = search needs
 
-slice-aggregate-bounds-3 : tie.Need-slice-aggregate-bounds-3
-slice-aggregate-bounds-3 c = rw length-take (omega arith)
+slice-aggregate-answer-3 : tie.Need-slice-aggregate-answer-3
+slice-aggregate-answer-3 c = rw length-take (omega arith)
 
-array-share-prefix-times : tie.Need-array-share-prefix-times
-array-share-prefix-times c = search needs
+array-borrow-prefix-times : tie.Need-array-borrow-prefix-times
+array-borrow-prefix-times c = search needs
 
-slice-aggregate-bounds-4 : tie.Need-slice-aggregate-bounds-4
-slice-aggregate-bounds-4 c = rw length-take (omega arith)
+slice-aggregate-answer-4 : tie.Need-slice-aggregate-answer-4
+slice-aggregate-answer-4 c = rw length-take (omega arith)
 
-bounds-requires : tie.Need-bounds-requires
-bounds-requires c κs = search needs
+answer-requires : tie.Need-answer-requires
+answer-requires c κs = search needs
 
 returns : tie.Need-returns
 returns c = search needs
 
-pub bounds-case-spec : {M : Type 1} → statement M
-bounds-case-spec =
+pub case-spec : {M : Type 1} → statement M
+case-spec =
     tie.close
     (tie.spec
     places-requires
@@ -95,17 +95,17 @@ bounds-case-spec =
     list-requires-2
     slice-aggregate-list-3
     list-requires-3
-    slice-aggregate-list-4
-    list-requires-4
+    slice-aggregate-times-of
+    times-of-requires
     slice-aggregate-count
     count-requires
     array-share-prefix-jobs
-    slice-aggregate-bounds
+    slice-aggregate-answer
     array-share-prefix-arcs
-    slice-aggregate-bounds-2
+    slice-aggregate-answer-2
     array-share-prefix-sections
-    slice-aggregate-bounds-3
-    array-share-prefix-times
-    slice-aggregate-bounds-4
-    bounds-requires
+    slice-aggregate-answer-3
+    array-borrow-prefix-times
+    slice-aggregate-answer-4
+    answer-requires
     returns)

@@ -1,9 +1,9 @@
--- The front of the lent list is as long as the answer says, at most the whole list.
+-- The front of the lent list is as long as the planned says, at most the whole list.
 use native.Mathlib.Omega.{arith}
 use lib.ListN.{length-take}
 use borrow.Author.Needs.{needs}
-use Rattle.cases_plan.proofs.answer.Statement.{statement}
-use Rattle.cases_plan.proofs.answer.Tie as tie
+use Rattle.cases_plan.proofs.planned.Statement.{statement}
+use Rattle.cases_plan.proofs.planned.Tie as tie
 
 plan-requires : tie.Need-plan-requires
 plan-requires c κs = search needs
@@ -11,23 +11,8 @@ plan-requires c κs = search needs
 enum-known-planned : tie.Need-enum-known-planned
 enum-known-planned c = search needs
 
-slice-aggregate-count : tie.Need-slice-aggregate-count
-slice-aggregate-count c = search needs
-
-number-requires : tie.Need-number-requires
-number-requires c κs = search needs
-
-count-requires : tie.Need-count-requires
-count-requires c κs = search needs
-
-slice-aggregate-count-2 : tie.Need-slice-aggregate-count-2
-slice-aggregate-count-2 c = search needs
-
-place-requires : tie.Need-place-requires
-place-requires c κs = search needs
-
-count-requires-2 : tie.Need-count-requires-2
-count-requires-2 c κs = search needs
+refused-requires : tie.Need-refused-requires
+refused-requires c κs = search needs
 
 kept-requires : tie.Need-kept-requires
 kept-requires c κs = search needs
@@ -95,18 +80,13 @@ same-length-2 c = search needs
 returns-2 : tie.Need-returns-2
 returns-2 c = search needs
 
-pub answer-spec : {M : Type 1} → statement M
-answer-spec =
+pub planned-spec : {M : Type 1} → statement M
+planned-spec =
     tie.close
     (tie.spec
     plan-requires
     enum-known-planned
-    slice-aggregate-count
-    number-requires
-    count-requires
-    slice-aggregate-count-2
-    place-requires
-    count-requires-2
+    refused-requires
     kept-requires
     slice-aggregate-say
     say-requires

@@ -1,14 +1,14 @@
 -- The cases are counted.
 use Prim.Native.Nat.{_≤_, _-_}
 use borrow.Author.Needs.{needs}
-use Rattle.cases_density.proofs.cases.Statement.{statement}
-use Rattle.cases_density.proofs.cases.Tie as tie
+use Rattle.cases_plan.proofs.cases.Statement.{statement}
+use Rattle.cases_plan.proofs.cases.Tie as tie
 
 abbrev Inv-loop : tie.InvT-loop
-Inv-loop text count at₀ k₀ at k = k ≤ count
+Inv-loop text start asked count at₀ k₀ at k = k ≤ count
 
 abbrev μ-loop : tie.MeasureT-loop
-μ-loop text count at₀ k₀ at k = count - k
+μ-loop text start asked count at₀ k₀ at k = count - k
 
 number-requires : tie.Need-number-requires Inv-loop μ-loop
 number-requires c κs = search needs
