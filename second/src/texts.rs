@@ -165,7 +165,7 @@ fn change(random: &mut Random, table: &mut Table, jobs: u32) {
     let place = random.place(list.len());
     let value = list[place];
     let near = [
-        value + 1,
+        value.saturating_add(1),
         value.saturating_sub(1),
         value / 2,
         jobs,
