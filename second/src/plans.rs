@@ -1,12 +1,12 @@
-//! Plans and texts made from a number, for the proved programs to be compared on.
+//! Plans made from a number, for the proved programs to be compared on.
 //!
 //! The same number always makes the same plan. Eight kinds take turns, and within a kind the
 //! turns go through its sizes, places and damages, so that some thousand numbers in a row meet
 //! all of them.
 
 use crate::density::density;
+use crate::random::Random;
 use crate::table::{Plan, Table, LARGEST_INSTANT};
-use crate::writer::write;
 
 /// The kinds of plans that take turns.
 pub const KINDS: u64 = 8;
@@ -16,49 +16,13 @@ const RICH: u32 = 735_134_400;
 
 /// Relative deadlines whose common multiple is just below or just above the largest one: one
 /// less, one more, more by a little, much more, less by a little.
-const NEAR_THE_LIMIT: [&[u32]; 5] = [
+pub(crate) const NEAR_THE_LIMIT: [&[u32]; 5] = [
     &[333_667, 2_997, 999, 111, 81, 37, 27, 9, 3],
     &[52_579, 19_019, 368_053, 2_717, 1_001, 143, 77, 19, 7],
     &[31_627, 31_643],
     &[999_983, 1_009],
     &[31_607, 31_627],
 ];
-
-/// Bytes that are put into some texts, more than a program's buffer has.
-const LONG: usize = 70_000;
-
-/// A generator of numbers (splitmix64).
-struct Random(u64);
-
-impl Random {
-    /// Gives the next 64 bits.
-    fn next(&mut self) -> u64 {
-        self.0 = self.0.wrapping_add(0x9e37_79b9_7f4a_7c15);
-        let mut word = self.0;
-        word = (word ^ (word >> 30)).wrapping_mul(0xbf58_476d_1ce4_e5b9);
-        word = (word ^ (word >> 27)).wrapping_mul(0x94d0_49bb_1331_11eb);
-        word ^ (word >> 31)
-    }
-
-    /// Gives a number below this one, or 0 below 0.
-    fn below(&mut self, limit: u32) -> u32 {
-        (self.next() % u64::from(limit.max(1))) as u32
-    }
-
-    /// Gives one of these.
-    fn one_of(&mut self, list: &[u32]) -> u32 {
-        list[self.below(list.len() as u32) as usize]
-    }
-
-    /// Gives the numbers below this one in some order.
-    fn order(&mut self, count: u32) -> Vec<u32> {
-        let mut order: Vec<u32> = (0..count).collect();
-        for place in (1..order.len()).rev() {
-            order.swap(place, self.below(place as u32 + 1) as usize);
-        }
-        order
-    }
-}
 
 /// A plan in the making: its jobs are release, cost and relative deadline.
 #[derive(Default)]
@@ -326,36 +290,4 @@ pub fn answer_lines(first: u64, count: u64) -> String {
         Err(r) => format!("{number}: refusal {} place {}\n", r.number, r.place),
     };
     (first..first + count).map(line).collect()
-}
-
-/// Makes the text of this number: every third is a table's as it was written, the others are
-/// changed in one place.
-pub fn text(number: u64) -> Vec<u8> {
-    let mut random = Random(!number);
-    let text = write(&plan(number / 3).table);
-    let mut text = text.unwrap_or_else(|_| b"jobs=65\n".to_vec());
-    if !number.is_multiple_of(3) {
-        change(&mut random, &mut text);
-    }
-    text
-}
-
-/// Changes a text in one place.
-fn change(random: &mut Random, text: &mut Vec<u8>) {
-    let at = random.below(text.len() as u32) as usize;
-    let byte = random.one_of(&b"0123456789=\nab -".map(u32::from)) as u8;
-    match random.below(6) {
-        0 => text.truncate(at),
-        1 => text.push(byte),
-        2 => text.insert(at, byte),
-        3 => text[at] = byte,
-        4 => {
-            let rest = text.split_off(at);
-            text.resize(at + LONG, byte);
-            text.extend(rest);
-        }
-        _ => {
-            text.remove(at);
-        }
-    }
 }

@@ -34,3 +34,20 @@ pub enum Slip {
     /// A job holds a section also when its executed count equals from.
     HoldsAtFrom,
 }
+
+/// The mistakes that show in what the program prints for some text: all but the one of the waiting
+/// bound, which it doesn't print, and the one of silent reports, which it doesn't meet.
+pub const SHOWN_BY_PROGRAM: [Slip; 12] = [
+    Slip::StartBestThatPasses,
+    Slip::CeilingAtMost,
+    Slip::OneTickSectionsDropped,
+    Slip::DeadlinesInTableOrder,
+    Slip::LatenessAgainstModified,
+    Slip::DensityPlaceFromZero,
+    Slip::LeadingZeroAccepted,
+    Slip::CycleByLeftover,
+    Slip::AdjacentOverlap,
+    Slip::LongestOfEqualToo,
+    Slip::ReleasesByMinimum,
+    Slip::HoldsAtFrom,
+];

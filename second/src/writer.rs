@@ -8,11 +8,16 @@ use crate::table::Table;
 /// Writes a table's text; values other than the counts are not judged.
 pub fn write(table: &Table) -> Result<Vec<u8>, Refusal> {
     counts(table)?;
+    Ok(written(table))
+}
+
+/// Gives the lines of a table whatever its counts, for texts that are to be refused too.
+pub(crate) fn written(table: &Table) -> Vec<u8> {
     let mut text = String::new();
     write_list(&mut text, "jobs", &JOB_KEYS, &table.jobs);
     write_list(&mut text, "arcs", &ARC_KEYS, &table.arcs);
     write_list(&mut text, "sections", &SECTION_KEYS, &table.sections);
-    Ok(text.into_bytes())
+    text.into_bytes()
 }
 
 /// Writes a table's text into a lent list of this length.

@@ -1,14 +1,12 @@
-//! The generated plans and texts meet what the programs are to be compared on.
+//! The generated plans meet what the programs are to be compared on.
 
 use second::cycles::lowest_on_cycle;
-use second::plans::{plan, plan_lines, text, KINDS};
-use second::{density, density_answer, Plan};
+use second::plans::{plan, plan_lines, KINDS};
+use second::{density, Plan};
 use std::collections::BTreeSet;
 
 /// Numbers of plans that are compared; `.ci/compare` has the same, in batches of 32.
 const PLANS: u64 = 2_560;
-/// Numbers of texts that are compared.
-const TEXTS: u64 = 384;
 
 /// Counts the plans for which something is so.
 fn count(is_so: impl Fn(&Plan) -> bool) -> usize {
@@ -73,23 +71,5 @@ fn a_batch_fits_the_programs_buffer() {
     assert_eq!(PLANS % (32 * KINDS), 0);
     for first in (0..PLANS).step_by(32) {
         assert!(plan_lines(first, 32).len() < 65_536, "from {first}");
-    }
-}
-
-#[test]
-fn texts_are_answered_and_refused() {
-    let firsts = (0..TEXTS).map(|number| {
-        let lines = String::from_utf8(density_answer(&text(number))).unwrap();
-        lines.lines().next().unwrap().to_string()
-    });
-    let firsts: BTreeSet<String> = firsts.collect();
-    let long = (0..TEXTS).filter(|&number| text(number).len() > 65_536);
-    assert!(long.count() >= 20);
-    for line in ["density=yes", "density=no"] {
-        assert!(firsts.contains(line), "{line} in {firsts:?}");
-    }
-    for number in [1, 2, 5, 6, 7, 9, 10, 14] {
-        let line = format!("refusal={number}");
-        assert!(firsts.contains(&line), "{line} in {firsts:?}");
     }
 }

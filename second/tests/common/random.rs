@@ -1,33 +1,29 @@
-//! A small seeded generator of numbers, tables and reports.
+//! Small seeded tables and reports.
 
 use super::table;
+pub use second::random::Random;
 use second::Table;
 
-/// A generator of numbers (splitmix64).
-pub struct Random(pub u64);
-
-impl Random {
-    /// Gives the next 64 bits.
-    pub fn next(&mut self) -> u64 {
-        self.0 = self.0.wrapping_add(0x9e37_79b9_7f4a_7c15);
-        let mut word = self.0;
-        word = (word ^ (word >> 30)).wrapping_mul(0xbf58_476d_1ce4_e5b9);
-        word = (word ^ (word >> 27)).wrapping_mul(0x94d0_49bb_1331_11eb);
-        word ^ (word >> 31)
-    }
-
-    /// Gives a number below this one.
-    pub fn below(&mut self, limit: u32) -> u32 {
-        (self.next() % u64::from(limit)) as u32
-    }
-
-    /// Tells yes this many times in a hundred.
-    pub fn percent(&mut self, times: u32) -> bool {
-        self.below(100) < times
-    }
-
+/// Tables and reports from a generator of numbers.
+pub trait Tables {
     /// Gives a small table, mostly an accepted one.
-    pub fn table(&mut self) -> Table {
+    fn table(&mut self) -> Table;
+
+    /// Gives a table in which one long job owns a resource while short ones come.
+    fn contended_table(&mut self) -> Table;
+
+    /// Gives a section of a job.
+    fn section(&mut self, job: u32, cost: u32) -> [u32; 4];
+
+    /// Gives some arcs, mostly without a cycle.
+    fn arcs(&mut self, jobs: u32) -> Vec<[u32; 2]>;
+
+    /// Gives reports for this many ticks.
+    fn reports(&mut self, ticks: u32) -> Vec<bool>;
+}
+
+impl Tables for Random {
+    fn table(&mut self) -> Table {
         if self.percent(50) {
             return self.contended_table();
         }
@@ -46,7 +42,6 @@ impl Random {
         table(&jobs, &self.arcs(count), &sections)
     }
 
-    /// Gives a table in which one long job owns a resource while short ones come.
     fn contended_table(&mut self) -> Table {
         let count = 2 + self.below(4);
         let long = self.below(count);
@@ -74,14 +69,12 @@ impl Random {
         table(&jobs, &arcs, &sections)
     }
 
-    /// Gives a section of a job.
     fn section(&mut self, job: u32, cost: u32) -> [u32; 4] {
         let from = self.below(cost);
         let to = from + 1 + self.below(cost - from);
         [job, self.below(3), from, to]
     }
 
-    /// Gives some arcs, mostly without a cycle.
     fn arcs(&mut self, jobs: u32) -> Vec<[u32; 2]> {
         let turn = self.below(jobs);
         let flip = self.percent(50);
@@ -101,8 +94,7 @@ impl Random {
         arcs
     }
 
-    /// Gives reports for this many ticks.
-    pub fn reports(&mut self, ticks: u32) -> Vec<bool> {
+    fn reports(&mut self, ticks: u32) -> Vec<bool> {
         let silent = [0, 10, 50, 100][self.below(4) as usize];
         (0..ticks).map(|_| self.percent(silent)).collect()
     }
