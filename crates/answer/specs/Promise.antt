@@ -25,12 +25,12 @@ unfolding rules.answer
 answerInto text out = unless (room (length (rules.answer text)) (length out)) (rules.answer text)
 
 -- The text, the bytes as they are lent, as they are left, and the answer.
-pub record Answers (text out out′ : List ℕ) (r : Writing) : Type 0 where
+pub record Prints (text out out′ : List ℕ) (r : Writing) : Type 0 where
   pub answer : writingSays r ≡ andThen (answerInto text out) (λ lines. gives (length lines))
   pub out-left : out′ ≡ afterwards (answerInto text out) (λ lines. lines) out
 
 -- Any two results of `answer` that its promise allows are equal: the answer and all of the bytes.
-pub answer-settled : {text out out₁ out₂ : List ℕ} {r₁ r₂ : Writing} → Answers text out out₁ r₁ → Answers text out out₂ r₂
+pub answer-settled : {text out out₁ out₂ : List ℕ} {r₁ r₂ : Writing} → Prints text out out₁ r₁ → Prints text out out₂ r₂
     → (r₁ ≡ r₂) × (out₁ ≡ out₂)
 answer-settled {r₁ = r₁} {r₂ = r₂} u v =
     (writing-settles r₁ r₂ (u .answer ∙ sym (v .answer)), u .out-left ∙ sym (v .out-left))
@@ -41,26 +41,26 @@ module _ (text out out′ : List ℕ) where
   fitting : fits (rules.answer text) out 0 ≡ leb (length (rules.answer text)) (length out)
   fitting = rw (zero-add (length (rules.answer text))) refl
 
-  pub answers-short : Puts (rules.answer text) out 0 out′ Short → Answers text out out′ (Refused Room)
+  pub prints-short : Puts (rules.answer text) out 0 out′ Short → Prints text out out′ (Refused Room)
   unfolding answerInto
-  answers-short p = go (leb (length (rules.answer text)) (length out)) refl (rw fitting at (p .answer)) (rw fitting at (p .left))
+  prints-short p = go (leb (length (rules.answer text)) (length out)) refl (rw fitting at (p .answer)) (rw fitting at (p .left))
     where
       go : (b : Bool) → leb (length (rules.answer text)) (length out) ≡ b → Short ≡ cond b (End (0 + length (rules.answer text))) Short
-          → out′ ≡ cond b (put out 0 (rules.answer text)) out → Answers text out out′ (Refused Room)
+          → out′ ≡ cond b (put out 0 (rules.answer text)) out → Prints text out out′ (Refused Room)
       go true e a l = let z : _≡_ {A = ℕ} 0 1 = cc in absurd (omega arith)
       go false e a l = record { answer = rw e refl; out-left = rw e l }
 
-  pub answers-whole : (n e : ℕ) → n ≡ length (rules.answer text) → Puts (rules.answer text) out 0 out′ (End e) → Answers text out out′ (Bytes n)
+  pub prints-whole : (n e : ℕ) → n ≡ length (rules.answer text) → Puts (rules.answer text) out 0 out′ (End e) → Prints text out out′ (Bytes n)
   unfolding answerInto
-  answers-whole n e q p = go (leb (length (rules.answer text)) (length out)) refl (rw fitting at (p .answer)) (rw fitting at (p .left))
+  prints-whole n e q p = go (leb (length (rules.answer text)) (length out)) refl (rw fitting at (p .answer)) (rw fitting at (p .left))
     where
       go : (b : Bool) → leb (length (rules.answer text)) (length out) ≡ b → End e ≡ cond b (End (0 + length (rules.answer text))) Short
-          → out′ ≡ cond b (put out 0 (rules.answer text)) out → Answers text out out′ (Bytes n)
+          → out′ ≡ cond b (put out 0 (rules.answer text)) out → Prints text out out′ (Bytes n)
       go true b a l = record { answer = rw (b, q) refl; out-left = rw b (l ∙ put-front out (rules.answer text)) }
       go false b a l = let z : _≡_ {A = ℕ} 0 1 = cc in absurd (omega arith)
 
   -- what is written is within the lent bytes
-  pub bytes-fit : (n : ℕ) → Answers text out out′ (Bytes n) → n ≤ length out
+  pub bytes-fit : (n : ℕ) → Prints text out out′ (Bytes n) → n ≤ length out
   unfolding answerInto
   bytes-fit n p = go (le-says (length (rules.answer text)) (length out)) (p .answer)
     where

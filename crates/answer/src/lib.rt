@@ -18,7 +18,7 @@ ghost use Rattle.rules.specs.Output.{report, printed};
 ghost use Rattle.rows.specs.Lists.{table};
 ghost use Rattle.text.specs.Put.{Over};
 ghost use Rattle.dispatch.specs.Lists.{plan};
-ghost use Rattle.answer.specs.Promise.{Answers};
+ghost use Rattle.answer.specs.Promise.{Prints};
 
 // The most bytes that are printed: 64 jobs, and ten digits for each number.
 const PAGE: usize = 5729;
@@ -96,7 +96,7 @@ fn print_text(page: &mut [u8], text: &[u8]) -> usize
 
 // What the program prints for a text, into the front of `out`; 11 and nothing written where the room is too short.
 pub fn answer(text: &[u8], out: &mut [u8]) -> Writing
-    ensures { λ r. ⌜ Answers (now (text .entry)) (now (out .entry)) (now (out .exit)) r ⌝ }
+    ensures { λ r. ⌜ Prints (now (text .entry)) (now (out .entry)) (now (out .exit)) r ⌝ }
 {
     let mut page = [0u8; PAGE];
     let n = print_text(&mut page, text);

@@ -3,7 +3,7 @@ use mathlib.Core.Path.{sym}
 use native.Mathlib.Omega.{arith}
 use lib.Seq.{length-take-le}
 use Rattle.answer.specs.Page.{front-of}
-use Rattle.answer.specs.Promise.{answers-short, answers-whole}
+use Rattle.answer.specs.Promise.{prints-short, prints-whole}
 use borrow.Author.Needs.{needs}
 use Rattle.answer.proofs.answer.Statement.{statement}
 use Rattle.answer.proofs.answer.Tie as tie
@@ -36,7 +36,7 @@ same-length c = search needs
 returns : tie.Need-returns
 returns c =
     let o = c .before .before .before .before .before .before .before .before .print-text .ensures .0 in
-    answers-whole _ _ _ _ _ (omega (arith, o .end)) (rw (c .enum-told .given .1) at (rw (front-of o) at (c .before .before .before .before .put-word .ensures)))
+    prints-whole _ _ _ _ _ (omega (arith, o .end)) (rw (c .enum-told .given .1) at (rw (front-of o) at (c .before .before .before .before .put-word .ensures)))
 
 same-length-2 : tie.Need-same-length-2
 same-length-2 c = search needs
@@ -44,7 +44,7 @@ same-length-2 c = search needs
 returns-2 : tie.Need-returns-2
 returns-2 c =
     let o = c .before .before .before .before .before .before .before .before .print-text .ensures .0 in
-    answers-short _ _ _ (rw (c .enum-told2 .given .1) at (rw (front-of o) at (c .before .before .before .before .put-word .ensures)))
+    prints-short _ _ _ (rw (c .enum-told2 .given .1) at (rw (front-of o) at (c .before .before .before .before .put-word .ensures)))
 
 pub answer-spec : {M : Type 1} → statement M
 answer-spec =
