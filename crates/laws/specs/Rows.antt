@@ -93,6 +93,11 @@ pub sum-more : (f : ℕ → ℕ) (n : ℕ) → sum f (n + 1) ≡ sum f n + f n
 unfolding sum
 sum-more f n = rw add-one
 
+pub smallest-more : (passes : ℕ → Bool) (f : ℕ → ℕ) (base n : ℕ)
+    → smallest passes f base (n + 1) ≡ cond (passes n) (min (smallest passes f base n) (f n)) (smallest passes f base n)
+unfolding smallest
+smallest-more passes f base n = rw add-one
+
 pub lowest-more : (f : ℕ → Bool) (n : ℕ) → lowest f (n + 1) ≡ orElse (lowest f n) (f n) n
 unfolding lowest
 lowest-more f n = rw add-one
@@ -184,7 +189,7 @@ unfolding count sum
 count-sum f zero = refl
 count-sum f (suc n) = rw (count-sum f n)
 
-bit-le : (a b : Bool) → (a ≡ true → b ≡ true) → cond a 1 0 ≤ cond b 1 0
+pub bit-le : (a b : Bool) → (a ≡ true → b ≡ true) → cond a 1 0 ≤ cond b 1 0
 bit-le true b h = rw (h refl) (omega arith)
 bit-le false b h = omega arith
 

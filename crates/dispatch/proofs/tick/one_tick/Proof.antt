@@ -1,9 +1,9 @@
 -- The choice, and what it does: idle or a given tick.
-use Rattle.dispatch.specs.Choice.{chosen-same, tick-idle, tick-runs}
-use Rattle.dispatch.specs.Choice.{chosen-pending}
-use Rattle.dispatch.specs.Lists.{plan, state, at, asOption, within-at}
-use Rattle.laws.specs.Tests.{le-says, lt-says, says-and, yes-says}
-use Rattle.rules.specs.Tick.{pending, chosen, tick, advance}
+use Rattle.dispatch.specs.Choice.{chosen-same}
+use Rattle.laws.specs.Chosen.{pending-says, chosen-pending, tick-idle, tick-runs}
+use Rattle.dispatch.specs.Lists.{plan, state, asOption, within-at}
+use Rattle.laws.specs.Tests.{yes-says}
+use Rattle.rules.specs.Tick.{chosen, tick, advance}
 use Rattle.rules.specs.Table.{Plan, State}
 use mathlib.Core.Path.{_≡_, sym, _∙_, ap}
 use mathlib.Core.Option.{none, some}
@@ -40,12 +40,9 @@ in-table : (c : tie.After-ran) → job c < length (begin (made c) .args .execute
 in-table c = within-at _ _ _ (made c .choose .ensures .0) (c .ran .given .1)
 
 unfinished : (c : tie.After-ran) → getD (begin (made c) .args .executed .now) (job c) 0 < getD (begin (made c) .args .jobs .now) (3 * job c + 1) 0
-unfolding pending
 unfinished c =
-    yes-says
-    (says-and (le-says (getD (begin (made c) .args .times .now) (2 * job c) 0) (begin (made c) .args .tick)) (lt-says _ _))
-    (chosen-pending (P (begin (made c))) (S (begin (made c))) (job c) (runs c))
-    .1
+    let b = begin (made c) in
+    yes-says (pending-says (P b) (S b) (job c)) (chosen-pending (P b) (S b) (job c) (runs c) .1) .1
 
 choose-requires : tie.Need-choose-requires
 choose-requires c κs = search needs
