@@ -20,7 +20,9 @@ use Rattle.laws.specs.Tests.{Says, so, not-so, lt-says, eq-says, says-or, yes-s
 use Rattle.laws.specs.Rows.{sum-more, sum-most, all-says, all-ext}
 use Rattle.laws.specs.First.{first-ext}
 use Rattle.laws.specs.Clears.{clears-says, may-says}
-use Rattle.dispatch.specs.Lists.{plan, state, at, candidate, HeldTo, clearOf}
+use Rattle.dispatch.specs.Lists.{plan, state, at, asOption, candidate, HeldTo, clearOf}
+use Rattle.dispatch.specs.declared.choice.Found.{Found}
+use Rattle.dispatch.specs.declared.choice.Found.the-variants.{At, Nothing}
 
 -- ---- units held, section by section
 
@@ -135,10 +137,21 @@ module _ (jobs arcs sections times : List ℕ) (t : ℕ) (e m f : List ℕ) wher
       all-ext _ _ resources
       (λ q l. clears-same (span (plan jobs [] sections times) j) q (held (plan jobs [] sections times) (at t e) q))
 
-  pub chosen-same : chosen (plan jobs [] sections times) (at t e) ≡ chosen (plan jobs arcs sections times) (state t e m f)
+  chosen-same : chosen (plan jobs [] sections times) (at t e) ≡ chosen (plan jobs arcs sections times) (state t e m f)
   unfolding chosen
   chosen-same = go (firstPending (plan jobs [] sections times) (at t e))
     where
       go : (o : Option ℕ) → choose (plan jobs [] sections times) (at t e) o ≡ choose (plan jobs arcs sections times) (state t e m f) o
       go none = refl
       go (some j) = rw (may-start-same j)
+
+  -- what was found by them
+  module _ (r : Found) (is : asOption r ≡ chosen (plan jobs [] sections times) (at t e)) where
+    pub found-is : asOption r ≡ chosen (plan jobs arcs sections times) (state t e m f)
+    found-is = is ∙ chosen-same
+
+    pub found-at : (j : ℕ) → r ≡ At j → chosen (plan jobs arcs sections times) (state t e m f) ≡ some j
+    found-at j q = sym found-is ∙ ap asOption q
+
+    pub found-none : r ≡ Nothing → chosen (plan jobs arcs sections times) (state t e m f) ≡ none
+    found-none q = sym found-is ∙ ap asOption q

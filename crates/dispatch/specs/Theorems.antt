@@ -13,10 +13,9 @@ use Rattle.rules.specs.Refusals.{faultOf, planInBounds, allFinished, stepFault}
 use Rattle.rules.specs.Tick.{chosen, ends, endsStale, markFor, advance, move, tick}
 use Rattle.rules.specs.Run.{afterReports, allEndBy, endState}
 use Rattle.rules.specs.declared.Refusal.{Refusal}
-use Rattle.laws.specs.Tests.{yes-says}
 use Rattle.laws.specs.Answers.{fault-settles}
 use Rattle.run_laws.specs.Theorems.{end-reached}
-use Rattle.laws.specs.Chosen.{pending-says, chosen-pending}
+use Rattle.laws.specs.Chosen.{chosen-left}
 use Rattle.dispatch.specs.Judged.{inBounds, JobStateIn, StateIn, state-in, in-state, step-good}
 use Rattle.dispatch.specs.Promise.{Result, said, Steps, Lists, Reach, told, Starts, Runs, asked, Lateness}
 use Rattle.dispatch.specs.declared.Ran.{Ran}
@@ -146,7 +145,7 @@ good-step p st silent e =
     ran-most j c k h x =
         elim (ℕ-discrete k j) [
           | yes q ↦
-              (let w : executed st j < cost (p .table) j = yes-says (pending-says p st j) (chosen-pending p st j c .1) .1 in
+              (let w : executed st j < cost (p .table) j = chosen-left p st j c in
               rw q (omega (arith, getD-set-same (st .executed) j (executed st j + 1) 0 (omega arith))))
           | no q ↦ omega (arith, getD-set-other (st .executed) j k (executed st j + 1) 0 q)
         ]

@@ -84,6 +84,9 @@ module _ (p : Plan) (st : State) where
       go (first-runs f) q = first-pending-told j (f ∙ q)
       go (detains f s m w) q = let (l, h, b) = first-started-told j (w ∙ q) in (l, h)
 
+  pub chosen-left : (j : ℕ) → chosen p st ≡ some j → executed st j < cost (p .table) j
+  chosen-left j e = yes-says (pending-says j) (chosen-pending j e .1) .1
+
   -- ---- the tick, each way out
 
   module _ (silent : Bool) where
