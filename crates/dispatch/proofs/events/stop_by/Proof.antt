@@ -1,8 +1,8 @@
 -- `stop_by` passes over a section of another job and one whose end is passed, and else takes the smaller end.
 use mathlib.Core.Path.{_≡_, sym, _∙_}
 use mathlib.Core.Bool.{true}
-use Prim.Native.Nat.{_*_}
-use lib.Dec.{eqb}
+use Prim.Native.Nat.{_+_, _*_, _≤_, _<_}
+use lib.Dec.{ltb, eqb}
 use lib.ListN.{getD}
 use native.Mathlib.Omega.{arith}
 use borrow.Author.Tests.{le-ltb, lt-ltb, eq-eqb, ne-eqb}
@@ -37,13 +37,24 @@ shared-slice-read-to : tie.Need-shared-slice-read-to
 shared-slice-read-to c = search needs
 
 returns-2 : tie.Need-returns-2
-returns-2 c = rw (own (c .before .before), le-ltb _ _ (c .if2 .taken))
+returns-2 c =
+    let l = c .before .before in
+    let a = l .before .before .before .args in
+    let h : getD (a .sections .now) (4 * a .s + 3) 0 ≤ a .done = omega arith in
+    rw (own l, le-ltb _ _ h)
+
+-- past the second its end lies ahead
+later : (c : tie.Else2)
+    → let a = c .before .before .before .before .before .args in ltb (a .done) (getD (a .sections .now) (4 * a .s + 3) 0) ≡ true
+later c =
+    let a = c .before .before .before .before .before .args in
+    let h : a .done < getD (a .sections .now) (4 * a .s + 3) 0 = omega arith in lt-ltb _ _ h
 
 returns-3 : tie.Need-returns-3
-returns-3 c = rw (own (c .before .before .before), lt-ltb _ _ (c .before .if2 .left)) (omega arith)
+returns-3 c = rw (own (c .before .before .before), later (c .before)) (omega arith)
 
 returns-4 : tie.Need-returns-4
-returns-4 c = rw (own (c .before .before .before), lt-ltb _ _ (c .before .if2 .left)) (omega arith)
+returns-4 c = rw (own (c .before .before .before), later (c .before)) (omega arith)
 
 pub stop-by-spec : {M : Type 1} → statement M
 stop-by-spec =
