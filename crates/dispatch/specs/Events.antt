@@ -18,7 +18,7 @@ use borrow.Author.Tests.{lt-ltb}
 use Rattle.laws.specs.Tests.{Says, lt-says, eq-says, says-and, yes-says, yes-of}
 use Rattle.laws.specs.Rows.{smallest-base, smallest-at, smallest-least}
 use Rattle.laws.specs.Chosen.{chosen-left}
-use Rattle.laws.specs.Events.{Quiet, advanceBy, answered-at-once, given-unended, ticks-idle, idle-unended, answered-on}
+use Rattle.laws.specs.Events.{Unreleased, Quiet, advanceBy, answered-at-once, given-unended, ticks-idle, idle-unended, answered-on}
 use Rattle.dispatch.specs.Lists.{plan, state, timed}
 use Rattle.dispatch.specs.Ends.{Going}
 
@@ -34,7 +34,7 @@ nextStop sections job done cost n =
     let t = plan [] [] sections [] .table in
     smallest (λ s. eqb (owner t s) job && ltb done (to t s)) (to t) cost n
 
--- So many ticks later, every report answered, and somebody was unfinished before each of them.
+-- So many ticks later, every report answered, and before each of them a job was unfinished.
 pub record Skipped (p : Plan) (st : State) (end : ℕ) (st′ : State) : Type 0 where
   pub ticks : ℕ
   pub rises : 0 < ticks
@@ -92,15 +92,17 @@ module _ (p : Plan) (st : State) (end : ℕ) (early : st .tick < end) (pairs : l
   abbrev release : ℕ
   release = nextRelease (p .times) (st .tick) end (length (p .times) / 2)
 
+  ahead : st .tick < release
+  ahead = release-after (p .times) (st .tick) end (length (p .times) / 2) early
+
   -- nobody is released up to the next release
-  free : (n : ℕ) → st .tick + n ≤ release → (i : ℕ) → i < jobCount (p .table) → st .tick < modifiedRelease p i
-      → st .tick + n ≤ modifiedRelease p i
+  free : (n : ℕ) → st .tick + n ≤ release → Unreleased p st n
   free n l i h g = omega (arith, release-least (p .times) (st .tick) end (length (p .times) / 2) i (omega arith) g)
 
   -- idle to the next release
   pub skips-idle : chosen p st ≡ none → (r : ℕ) → r ≡ release → Skipped p st end (state r (st .executed) (st .marks) (st .finish))
   skips-idle c r e =
-      let a = release-after (p .times) (st .tick) end (length (p .times) / 2) early in
+      let a = ahead in
       let n : ℕ = r - st .tick in
       let t : st .tick + n ≡ r = omega arith in
       let w : length (replicate n false) ≡ n = length-replicate n false in
@@ -114,38 +116,37 @@ module _ (p : Plan) (st : State) (end : ℕ) (early : st .tick < end) (pairs : l
         unended = λ f k h. idle-unended p st n c q f (replicate k false) (omega (arith, length-replicate k false));
       }
 
-  -- so many ticks for the chosen job
-  module _ (j : ℕ) (c : chosen p st ≡ some j) (n : ℕ)
-      (is : n ≡ min (release - st .tick) (nextStop (p .table .sections) j (executed st j) (cost (p .table) j) (sectionCount (p .table)) - executed st j)) where
-    stop-later : executed st j < nextStop (p .table .sections) j (executed st j) (cost (p .table) j) (sectionCount (p .table))
-    stop-later = stop-after (p .table .sections) j (executed st j) (cost (p .table) j) (sectionCount (p .table)) (chosen-left p st j c)
+  -- so many ticks for the chosen job, up to the next release or its own stop
+  module _ (j : ℕ) where
+    abbrev stop : ℕ
+    stop = nextStop (p .table .sections) j (executed st j) (cost (p .table) j) (sectionCount (p .table))
 
-    pub run-quiet : Quiet p st j n
-    run-quiet =
-        record {
-          room = omega (arith, stop-later, stop-by (p .table .sections) j (executed st j) (cost (p .table) j) (sectionCount (p .table)));
-          no-release = free n (omega (arith, release-after (p .times) (st .tick) end (length (p .times) / 2) early));
-          no-end = λ s l o h. omega (arith, stop-later, stop-least (p .table .sections) j (executed st j) (cost (p .table) j) (sectionCount (p .table)) s l o h);
-        }
+    module _ (c : chosen p st ≡ some j) (n : ℕ) (is : n ≡ min (release - st .tick) (stop - executed st j)) where
+      stop-later : executed st j < stop
+      stop-later = stop-after (p .table .sections) j (executed st j) (cost (p .table) j) (sectionCount (p .table)) (chosen-left p st j c)
 
-    pub run-soon : (0 < n) × (st .tick + n ≤ end)
-    run-soon =
-        let a = release-after (p .times) (st .tick) end (length (p .times) / 2) early in
-        let b = release-by (p .times) (st .tick) end (length (p .times) / 2) in
-        let d = stop-later in (omega arith, omega arith)
+      pub run-quiet : Quiet p st j n
+      run-quiet =
+          record {
+            room = omega (arith, stop-later, stop-by (p .table .sections) j (executed st j) (cost (p .table) j) (sectionCount (p .table)));
+            no-release = free n (omega (arith, ahead));
+            no-end = λ s l o h. omega (arith, stop-later, stop-least (p .table .sections) j (executed st j) (cost (p .table) j) (sectionCount (p .table)) s l o h);
+          }
 
-    pub skips-run : j < length (st .executed) → (st′ : State) → st′ ≡ advanceBy p st false j n → Skipped p st end st′
-    unfolding advanceBy
-    skips-run l st′ e =
-        record {
-          ticks = n;
-          rises = run-soon .0;
-          soon = run-soon .1;
-          time = ap (λ (x : State). x .tick) e;
-          becomes = e ∙ sym (answered-at-once p st j l n c run-quiet (run-soon .0));
-          unended = λ f k h.
-              given-unended p st j l n c run-quiet (replicate k false) (omega (arith, length-replicate k false));
-        }
+      pub run-soon : (0 < n) × (st .tick + n ≤ end)
+      run-soon = (omega (arith, ahead, stop-later), omega (arith, ahead, release-by (p .times) (st .tick) end (length (p .times) / 2)))
+
+      pub skips-run : j < length (st .executed) → (st′ : State) → st′ ≡ advanceBy p st false j n → Skipped p st end st′
+      unfolding advanceBy
+      skips-run l st′ e =
+          record {
+            ticks = n;
+            rises = run-soon .0;
+            soon = run-soon .1;
+            time = ap (λ (x : State). x .tick) e;
+            becomes = e ∙ sym (answered-at-once p st j l n c run-quiet (run-soon .0));
+            unended = λ f k h. given-unended p st j l n c run-quiet (replicate k false) (omega (arith, length-replicate k false));
+          }
 
 -- ---- a run, from event to event
 

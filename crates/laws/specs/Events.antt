@@ -177,10 +177,14 @@ module _ (p : Plan) (st st′ : State) (N : NoEvent p st st′) where
 
 -- ---- a job that runs to the next event
 
+-- Nobody in the table is released in the n ticks from st: at their end, at the earliest.
+abbrev pub Unreleased : Plan → State → ℕ → Type 0
+Unreleased p st n = (i : ℕ) → i < jobCount (p .table) → st .tick < modifiedRelease p i → st .tick + n ≤ modifiedRelease p i
+
 -- From st job j can be given n ticks before there is an event.
 pub record Quiet (p : Plan) (st : State) (j n : ℕ) : Type 0 where
   pub room : executed st j + n ≤ cost (p .table) j
-  pub no-release : (i : ℕ) → i < jobCount (p .table) → st .tick < modifiedRelease p i → st .tick + n ≤ modifiedRelease p i
+  pub no-release : Unreleased p st n
   pub no-end : (s : ℕ) → s < sectionCount (p .table) → owner (p .table) s ≡ j → executed st j < to (p .table) s
       → executed st j + n ≤ to (p .table) s
 
@@ -236,10 +240,8 @@ module _ (p : Plan) (st : State) (j : ℕ) (l : j < length (st .executed)) where
 abbrev pub idled : State → ℕ → State
 idled st k = record { tick = st .tick + k; executed = st .executed; marks = st .marks; finish = st .finish }
 
--- The n ticks are idle, if the first is and nobody is released before their end.
-pub idle-stays : (p : Plan) (st : State) (n : ℕ) → chosen p st ≡ none
-    → ((i : ℕ) → i < jobCount (p .table) → st .tick < modifiedRelease p i → st .tick + n ≤ modifiedRelease p i)
-    → (k : ℕ) → k < n → chosen p (idled st k) ≡ none
+-- The n ticks are idle, if the first is.
+pub idle-stays : (p : Plan) (st : State) (n : ℕ) → chosen p st ≡ none → Unreleased p st n → (k : ℕ) → k < n → chosen p (idled st k) ≡ none
 idle-stays p st n c free k h =
     choice-again p st (idled st k)
     (record {
@@ -256,7 +258,7 @@ idle-stays p st n c free k h =
 
 -- ---- what the ticks write
 
--- The n-th of n ticks that job j is given, with its report: what it writes where it ends the job, and `advance` for n = 1.
+-- What n ticks that job j is given come to, the last of them with this report; `advance`, where n is 1.
 unfoldable pub advanceBy : Plan → State → Bool → ℕ → ℕ → State
 unfolding endsStale
 advanceBy p st silent j n =
@@ -301,18 +303,18 @@ module _ (p : Plan) (st : State) (j : ℕ) (l : j < length (st .executed)) where
     tick-given : (silent : Bool) (k : ℕ) → k < n → tick p (given st j k) silent ≡ advanceBy p st silent j (suc k)
     tick-given silent k h = sym (tick-runs p (given st j k) silent j (choice-stays p st j l n c Q k h)) ∙ advance-given silent k
 
-    -- Before the n-th tick no report counts ..
+    -- Up to the last tick no report counts ..
     pub ticks-given : (rs : List Bool) → length rs < n → onward p st rs ≡ given st j (length rs)
     ticks-given rs h =
         rw (given-none p st j l) at
         (ticks-along p (given st j) rs (λ k r g. tick-given r k (omega arith) ∙ advance-unended r (suc k) (λ q. omega (arith, Q .room))))
 
-    -- .. and in it only the last.
+    -- .. and with it only its own.
     pub ticks-at-once : (rs : List Bool) (silent : Bool) → length rs < n
         → onward p st (rs ++ silent ∷ []) ≡ advanceBy p st silent j (suc (length rs))
     ticks-at-once rs silent h = onward-snoc p st rs silent ∙ rw (ticks-given rs h) (tick-given silent (length rs) h)
 
-    -- somebody is unfinished before each of them
+    -- before each of them a job is unfinished
     pub given-unended : (rs : List Bool) → length rs < n → allFinished p (onward p st rs) ≡ false
     unfolding allFinished
     given-unended rs h =
@@ -330,8 +332,7 @@ module _ (p : Plan) (st : State) (j : ℕ) (l : j < length (st .executed)) where
         rw (replicate-append-replicate (n - 1) 1 false, r, a, b) at (ticks-at-once (replicate (n - 1) false) false (omega arith))
 
 -- idle ticks write nothing
-module _ (p : Plan) (st : State) (n : ℕ) (c : chosen p st ≡ none)
-    (free : (i : ℕ) → i < jobCount (p .table) → st .tick < modifiedRelease p i → st .tick + n ≤ modifiedRelease p i) where
+module _ (p : Plan) (st : State) (n : ℕ) (c : chosen p st ≡ none) (free : Unreleased p st n) where
   pub ticks-idle : (rs : List Bool) → length rs ≤ n → onward p st rs ≡ idled st (length rs)
   ticks-idle rs h =
       let t : st .tick + 0 ≡ st .tick = omega arith in
@@ -346,7 +347,7 @@ module _ (p : Plan) (st : State) (n : ℕ) (c : chosen p st ≡ none)
 
 -- ---- runs with every report answered
 
--- A run goes on from what its first n ticks come to, if somebody was unfinished before each of them.
+-- A run goes on from what its first n ticks come to, if before each of them a job was unfinished.
 pub answered-on : (p : Plan) (m n : ℕ) (st : State) → ((k : ℕ) → k < n → allFinished p (onward p st (replicate k false)) ≡ false)
     → answered p (n + m) st ≡ answered p m (onward p st (replicate n false))
 unfolding answered onward
