@@ -6,11 +6,12 @@ use crate::tick;
 use rules::Instant;
 ghost use mathlib.Core.Path.{_≡_};
 ghost use mathlib.Core.Bool.{cond, _&&_};
-ghost use Prim.Native.Nat.{_+_, _*_, _/_, _-_, _<_, _≤_, min};
+ghost use mathlib.Core.List.{[]};
+ghost use Prim.Native.Nat.{_+_, _*_, _/_, _<_, _≤_, min};
 ghost use lib.Dec.{ltb, eqb};
 ghost use lib.ListN.{length, getD};
-ghost use Rattle.dispatch.specs.Lists.{plan, state, Fit};
-ghost use Rattle.dispatch.specs.Events.{nextRelease, nextStop, Skipped};
+ghost use Rattle.dispatch.specs.Lists.{plan, state, at, Fit};
+ghost use Rattle.dispatch.specs.Events.{nextRelease, nextStop, ticksFree, Skipped};
 
 // The next release after the tick, where `release` is looked at beside the next so far.
 fn sooner(tick: Instant, release: Instant, next: Instant) -> Instant
@@ -58,32 +59,56 @@ fn stop_by(sections: &[u32], job: usize, done: u32, s: usize, stop: u32) -> u32
     stop
 }
 
-// The executed ticks at which the job next passes the end of one of its sections, and at most its cost.
+// The executed ticks at which the job next passes the end of one of its sections, and at most its cost. No stop is nearer than
+// the next tick, so none is looked for behind it.
 fn next_stop(sections: &[u32], job: usize, done: u32, cost: u32) -> u32
+    requires { ⌜ done < cost ⌝ }
     ensures { λ r. ⌜ r ≡ nextStop (now (sections .entry)) job done cost (length (now (sections .entry)) / 4) ⌝ }
 {
     let many = sections.len() / 4;
+    let nearest = done + 1;
     let mut stop = cost;
     let mut s = 0;
     while s < many {
+        if stop == nearest {
+            return stop;
+        }
         stop = stop_by(sections, job, done, s, stop);
         s += 1;
     }
     stop
 }
 
-// How many ticks the job runs before the next event, of which `free` ticks from now is one.
-fn ticks_free(jobs: &[u32], sections: &[u32], executed: &[u32], job: usize, free: u32) -> u32
-    requires { ⌜ (3 * job + 1 < length (now jobs)) × (job < length (now executed)) × (getD (now executed) job 0 < getD (now jobs) (3 * job + 1) 0) ⌝ }
-    ensures { λ r. ⌜ r ≡ min free (nextStop (now (sections .entry)) job (getD (now (executed .entry)) job 0) (getD (now (jobs .entry)) (3 * job + 1) 0) (length (now (sections .entry)) / 4)
-        - getD (now (executed .entry)) job 0) ⌝ }
+fn smaller(a: u32, b: u32) -> u32
+    ensures { λ r. ⌜ r ≡ min a b ⌝ }
+{
+    if a < b {
+        return a;
+    }
+    b
+}
+
+// How many ticks the job runs up to the next event, or to `end`: the next release counts only where it comes before its stop.
+fn ticks_free(
+    jobs: &[u32],
+    sections: &[u32],
+    times: &[u32],
+    tick: u32,
+    end: u32,
+    executed: &[u32],
+    job: usize,
+) -> u32
+    requires { ⌜ (3 * job + 1 < length (now jobs)) × (job < length (now executed)) × (getD (now executed) job 0 < getD (now jobs) (3 * job + 1) 0) × (tick < end) ⌝ }
+    ensures { λ r. ⌜ r ≡ ticksFree (plan (now (jobs .entry)) [] (now (sections .entry)) (now (times .entry))) (at tick (now (executed .entry))) end job ⌝ }
 {
     let done = executed[job];
-    let most = next_stop(sections, job, done, jobs[3 * job + 1]) - done;
-    if free < most {
-        return free;
+    let own = next_stop(sections, job, done, jobs[3 * job + 1]) - done;
+    let most = smaller(own, end - tick);
+    if most == 1 {
+        return 1;
     }
-    most
+    let release = next_release(times, Instant(tick), Instant(tick + most));
+    release.0 - tick
 }
 
 // Takes the ticks from this one to the next event, or to `end`, every report answered: the tick after them.
@@ -103,12 +128,14 @@ pub fn skip(
         (state tick (now (executed .entry)) (now (marks .entry)) (now (finish .entry))) end
         (state r (now (executed .exit)) (now (marks .exit)) (now (finish .exit))) ⌝ }
 {
-    let release = next_release(times, Instant(tick), Instant(end));
     let ran = choice::choose(jobs, sections, times, tick, executed);
     match ran {
-        Found::Nothing => release.0,
+        Found::Nothing => {
+            let release = next_release(times, Instant(tick), Instant(end));
+            release.0
+        }
         Found::At(job) => {
-            let ticks = ticks_free(jobs, sections, executed, job, release.0 - tick);
+            let ticks = ticks_free(jobs, sections, times, tick, end, executed, job);
             tick::give_ticks(jobs, arcs, tick, executed, marks, finish, false, job, ticks);
             tick + ticks
         }

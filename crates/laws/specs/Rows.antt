@@ -267,6 +267,11 @@ module _ (passes : ℕ → Bool) (f : ℕ → ℕ) (base : ℕ) where
       go true e ih = omega (arith, h n (omega arith) e)
       go false e ih = ih
 
+  -- among more rows it is no larger
+  pub smallest-falls : (m n : ℕ) → m ≤ n → smallest passes f base n ≤ smallest passes f base m
+  smallest-falls m n l =
+      smallest-least m (smallest passes f base n) (smallest-base n) (λ k h e. smallest-at n k (omega arith) e)
+
 module _ (passes passes′ : ℕ → Bool) (f g : ℕ → ℕ) (base : ℕ) where
   pub largest-ext : (n : ℕ) → ((k : ℕ) → k < n → passes k ≡ passes′ k) → ((k : ℕ) → k < n → passes k ≡ true → f k ≡ g k)
       → largest passes f base n ≡ largest passes′ g base n

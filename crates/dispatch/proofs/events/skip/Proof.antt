@@ -1,14 +1,14 @@
 -- The choice, and how far it lasts: idle to the next release, or the job's own ticks up to the next event.
 use Rattle.dispatch.specs.Choice.{found-at, found-none}
-use Rattle.dispatch.specs.Events.{nextRelease, nextStop, release-after, skips-idle, run-quiet, run-soon, skips-run}
+use Rattle.dispatch.specs.Events.{ticksFree, skips-idle, run-quiet, run-soon, skips-run}
 use Rattle.dispatch.specs.Lists.{plan, state, within-at}
 use Rattle.laws.specs.Chosen.{chosen-left}
 use Rattle.laws.specs.Events.{Quiet, advanceBy}
 use Rattle.rules.specs.Tick.{chosen}
-use Rattle.rules.specs.Table.{Plan, State, cost, executed}
+use Rattle.rules.specs.Table.{Plan, State}
 use mathlib.Core.Path.{_≡_}
 use mathlib.Core.Option.{some}
-use Prim.Native.Nat.{ℕ, _+_, _/_, _-_, _<_, _≤_, min}
+use Prim.Native.Nat.{ℕ, _+_, _/_, _<_, _≤_}
 use native.Mathlib.Omega.{arith}
 use lib.ListN.{length}
 use borrow.Author.Needs.{needs}
@@ -16,17 +16,13 @@ use Rattle.dispatch.proofs.events.skip.Statement.{statement}
 use Rattle.dispatch.proofs.events.skip.Tie as tie
 
 abbrev begin : tie.After-choose → tie.Start
-begin c = c .before .before .before .before .before .before .before .before .before .before
+begin c = c .before .before .before .before .before .before .before .before .before
 
 abbrev P : tie.Start → Plan
 P c = plan (c .args .jobs .now) (c .args .arcs .now) (c .args .sections .now) (c .args .times .now)
 
 abbrev S : tie.Start → State
 S c = state (c .args .tick) (c .args .executed .now) (c .args .marks .now) (c .args .finish .now)
-
--- the next release lies ahead
-abbrev release : tie.Start → ℕ
-release c = nextRelease (c .args .times .now) (c .args .tick) (c .args .end) (length (c .args .times .now) / 2)
 
 early : (c : tie.Start) → c .args .tick < c .args .end
 early c = c .pre .1
@@ -48,13 +44,12 @@ in-table c = within-at _ _ _ (made c .choose .ensures .0) (c .ran .given .1)
 
 -- the ticks up to the next event
 abbrev gone : tie.After-ticks-free → tie.After-ran
-gone c = c .before .before .before .before
+gone c = c .before .before .before
 
 ticks-are : (c : tie.After-ticks-free)
-    → let b = begin (made (gone c)) in
-    c .ticks-free .result
-    ≡ min (release b - b .args .tick) (nextStop (b .args .sections .now) (job (gone c)) (executed (S b) (job (gone c))) (cost (P b .table) (job (gone c))) (length (b .args .sections .now) / 4) - executed (S b) (job (gone c)))
-ticks-are c = rw (← made (gone c) .before .before .next-release .ensures) (c .ticks-free .ensures)
+    → let b = begin (made (gone c)) in c .ticks-free .result ≡ ticksFree (P b) (S b) (b .args .end) (job (gone c))
+unfolding ticksFree
+ticks-are c = c .ticks-free .ensures
 
 quiet : (c : tie.After-ticks-free) → Quiet (P (begin (made (gone c)))) (S (begin (made (gone c)))) (job (gone c)) (c .ticks-free .result)
 quiet c = let b = begin (made (gone c)) in run-quiet (P b) (S b) (b .args .end) (early b) (pairs b) (job (gone c)) (runs (gone c)) _ (ticks-are c)
@@ -63,29 +58,24 @@ soon : (c : tie.After-ticks-free)
     → let b = begin (made (gone c)) in (0 < c .ticks-free .result) × (b .args .tick + c .ticks-free .result ≤ b .args .end)
 soon c = let b = begin (made (gone c)) in run-soon (P b) (S b) (b .args .end) (early b) (pairs b) (job (gone c)) (runs (gone c)) _ (ticks-are c)
 
-next-release-requires : tie.Need-next-release-requires
-next-release-requires c κs = search needs
-
 choose-requires : tie.Need-choose-requires
 choose-requires c κs = search needs
 
 enum-told : tie.Need-enum-told
 enum-told c = search needs
 
+next-release-requires : tie.Need-next-release-requires
+next-release-requires c κs = search needs
+
 enum-known-ran : tie.Need-enum-known-ran
 enum-known-ran c = search needs
 
-sub-ticks-free : tie.Need-sub-ticks-free
-sub-ticks-free c =
-    let m = made (c .before .before .before) in
-    let b = begin m in
-    omega (arith, m .before .before .next-release .ensures, release-after (b .args .times .now) (b .args .tick) (b .args .end) (length (b .args .times .now) / 2) (early b))
-
 ticks-free-requires : tie.Need-ticks-free-requires
 ticks-free-requires c κs =
-    let r = c .before .before .before in
+    let r = c .before .before in
+    let b = begin (made r) in
     let l = in-table r in
-    (omega (arith, begin (made r) .pre .0 .lists .by-job), l, chosen-left _ _ _ (runs r))
+    (omega (arith, b .pre .0 .lists .by-job), l, chosen-left _ _ _ (runs r), early b)
 
 give-ticks-requires : tie.Need-give-ticks-requires
 give-ticks-requires c κs =
@@ -105,9 +95,9 @@ same-length c = search needs
 
 returns : tie.Need-returns
 returns c =
-    let m = c .before .before in
+    let m = c .before .before .before in
     let b = begin m in
-    skips-idle _ _ _ (early b) (pairs b) (found-none _ _ _ _ _ _ _ _ _ (m .choose .ensures .1) (c .enum-told .given .1)) _ (m .before .before .next-release .ensures)
+    skips-idle _ _ _ (early b) (pairs b) (found-none _ _ _ _ _ _ _ _ _ (m .choose .ensures .1) (c .before .enum-told .given .1)) _ (c .next-release .ensures)
 
 same-length-2 : tie.Need-same-length-2
 same-length-2 c = search needs
@@ -129,11 +119,10 @@ pub skip-spec : {M : Type 1} → statement M
 skip-spec =
     tie.close
     (tie.spec
-    next-release-requires
     choose-requires
     enum-told
+    next-release-requires
     enum-known-ran
-    sub-ticks-free
     ticks-free-requires
     give-ticks-requires
     add-result
