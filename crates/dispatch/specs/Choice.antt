@@ -1,27 +1,28 @@
 -- Laws for the choice: the units that one pass over the sections counts, and that the ceilings compared section by section are
 -- 01's test.
 use mathlib.Core.Path.{_≡_, refl, sym, _∙_, ap}
-use mathlib.Core.Logic.{_≢_, _⊎_, inl, inr, ⊎-elim}
-use mathlib.Core.Bool.{Bool, true, false, cond, not, _&&_, _||_, and-true, and-false}
+use mathlib.Core.Logic.{_≢_, _⊎_, ⊎-elim}
+use mathlib.Core.Bool.{Bool, true, false, cond, _&&_, _||_, and-true, and-false}
 use mathlib.Core.List.{List, []}
 use mathlib.Core.Option.{Option, none, some}
-use Prim.Native.Nat.{ℕ, zero, suc, _+_, _*_, _/_, _≤_, _<_}
+use Prim.Native.Nat.{ℕ, _+_, _≤_, _<_}
 use native.Mathlib.Decide.{ℕ-discrete}
 use native.Mathlib.Omega.{arith}
-use lib.ListN.{length, getD, set, replicate, length-set, getD-replicate}
+use lib.ListN.{getD, set, replicate, length-set, getD-replicate}
 use lib.Seq.{getD-set-same, getD-set-other}
-use lib.Dec.{ltb, eqb}
+use lib.Dec.{eqb}
 use borrow.Author.Tests.{eq-eqb, ne-eqb}
 use Rattle.rules.specs.Rows.{all, sum, first}
 use Rattle.rules.specs.Table.{Plan, State, resources, jobCount, sectionCount, owner, resource, span}
 use Rattle.rules.specs.Order.{comesBefore}
-use Rattle.rules.specs.Tick.{pending, started, holds, units, tightest, spanOf, belowCeiling, heldOn, held, clears, mayStart, firstPending, firstStarted, choose, chosen, advance, tick}
-use Rattle.laws.specs.Tests.{Says, so, not-so, tested, clash, lt-says, eq-says, bool-says, says-map, says-and, says-or, yes-says, no-says, yes-of, no-of}
+use Rattle.rules.specs.Tick.{pending, holds, tightest, spanOf, belowCeiling, heldOn, held, clears, mayStart, firstPending, firstStarted, choose, chosen}
+use Rattle.laws.specs.Tests.{Says, so, not-so, lt-says, eq-says, says-or, yes-says, no-says}
 use Rattle.laws.specs.Rows.{sum-more, sum-most, all-says, all-ext}
-use Rattle.laws.specs.First.{FirstOf, nobody, found, first-of, first-ext}
-use Rattle.laws.specs.Order.{before-order}
-use Rattle.laws.specs.Clears.{SectionOn, clears-says, may-says}
-use Rattle.dispatch.specs.Lists.{plan, state, at, candidate, HeldTo, clearOf}
+use Rattle.laws.specs.First.{first-ext}
+use Rattle.laws.specs.Clears.{clears-says, may-says}
+use Rattle.dispatch.specs.Lists.{plan, state, at, asOption, candidate, HeldTo, clearOf}
+use Rattle.dispatch.specs.declared.choice.Found.{Found}
+use Rattle.dispatch.specs.declared.choice.Found.the-variants.{At, Nothing}
 
 -- ---- units held, section by section
 
@@ -112,69 +113,11 @@ module _ (p : Plan) (st : State) (u : List ℕ) (h : HeldTo p st (sectionCount (
 module _ (p : Plan) (st : State) (n : ℕ) (e : jobCount (p .table) ≡ n) where
   pub first-pending-is : first (comesBefore p) (candidate false p st) n ≡ firstPending p st
   unfolding firstPending candidate
-  first-pending-is = rw (← e) (first-ext (comesBefore p) (candidate false p st) (pending p st) (λ k. and-true (pending p st k)) (jobCount (p .table)))
+  first-pending-is = rw (← e) (first-ext (comesBefore p) (candidate false p st) (pending p st) (jobCount (p .table)) (λ k l. and-true (pending p st k)))
 
   pub first-started-is : first (comesBefore p) (candidate true p st) n ≡ firstStarted p st
   unfolding firstStarted candidate
   first-started-is = rw (← e) refl
-
--- ---- the choice, each way out
-
-module _ (p : Plan) (st : State) where
-  pub chosen-idle : firstPending p st ≡ none → chosen p st ≡ none
-  unfolding chosen
-  chosen-idle e = rw e
-
-  module _ (j : ℕ) (e : firstPending p st ≡ some j) where
-    pub chosen-resumes : started st j ≡ true → chosen p st ≡ some j
-    unfolding chosen
-    chosen-resumes s = rw (e, s)
-
-    pub chosen-starts : started st j ≡ false → mayStart p st j ≡ true → chosen p st ≡ some j
-    unfolding chosen
-    chosen-starts s m = rw (e, s, m)
-
-    pub chosen-detains : started st j ≡ false → mayStart p st j ≡ false → chosen p st ≡ firstStarted p st
-    unfolding chosen
-    chosen-detains s m = rw (e, s, m)
-
--- ---- who is chosen is pending
-
-first-passes : {before : ℕ → ℕ → Bool} {passes : ℕ → Bool} {n : ℕ} {o : Option ℕ} → FirstOf before passes n o → (j : ℕ) → o ≡ some j → passes j ≡ true
-first-passes (nobody h) j e = let z : _≡_ {A = ℕ} 0 1 = cc in absurd (omega arith)
-first-passes {passes = passes} (found {x} l p h) j e = let q : x ≡ j = cc in rw (← q) p
-
-pub chosen-pending : (p : Plan) (st : State) (j : ℕ) → chosen p st ≡ some j → pending p st j ≡ true
-unfolding chosen firstPending firstStarted
-chosen-pending p st j e =
-    go (first (comesBefore p) (pending p st) (jobCount (p .table))) (first-of (comesBefore p) (pending p st) (before-order p) (jobCount (p .table))) e
-  where
-    late : firstStarted p st ≡ some j → pending p st j ≡ true
-    late q =
-        yes-says
-        (says-and (bool-says (pending p st j)) (bool-says (started st j)))
-        (first-passes (first-of (comesBefore p) (λ k. pending p st k && started st k) (before-order p) (jobCount (p .table))) j q)
-        .0
-
-    pick : (x : ℕ) (b : Bool) → pending p st x ≡ true → cond b (some x) (firstStarted p st) ≡ some j → pending p st j ≡ true
-    pick x true h q = let z : x ≡ j = cc in rw (← z) h
-    pick x false h q = late q
-
-    go : (o : Option ℕ) → FirstOf (comesBefore p) (pending p st) (jobCount (p .table)) o → choose p st o ≡ some j → pending p st j ≡ true
-    go none f q = let z : _≡_ {A = ℕ} 0 1 = cc in absurd (omega arith)
-    go (some x) f q = pick x (started st x || mayStart p st x) (first-passes f x refl) q
-
--- ---- the tick, each way out
-
-module _ (p : Plan) (st : State) (silent : Bool) where
-  pub tick-idle : chosen p st ≡ none
-      → record { tick = st .tick + 1; executed = st .executed; marks = st .marks; finish = st .finish } ≡ tick p st silent
-  unfolding tick
-  tick-idle e = rw e
-
-  pub tick-runs : (j : ℕ) → chosen p st ≡ some j → advance p st silent j ≡ tick p st silent
-  unfolding tick
-  tick-runs j e = rw e
 
 -- ---- the choice looks at neither arcs nor marks nor finishes
 
@@ -194,10 +137,21 @@ module _ (jobs arcs sections times : List ℕ) (t : ℕ) (e m f : List ℕ) wher
       all-ext _ _ resources
       (λ q l. clears-same (span (plan jobs [] sections times) j) q (held (plan jobs [] sections times) (at t e) q))
 
-  pub chosen-same : chosen (plan jobs [] sections times) (at t e) ≡ chosen (plan jobs arcs sections times) (state t e m f)
+  chosen-same : chosen (plan jobs [] sections times) (at t e) ≡ chosen (plan jobs arcs sections times) (state t e m f)
   unfolding chosen
   chosen-same = go (firstPending (plan jobs [] sections times) (at t e))
     where
       go : (o : Option ℕ) → choose (plan jobs [] sections times) (at t e) o ≡ choose (plan jobs arcs sections times) (state t e m f) o
       go none = refl
       go (some j) = rw (may-start-same j)
+
+  -- what was found by them
+  module _ (r : Found) (is : asOption r ≡ chosen (plan jobs [] sections times) (at t e)) where
+    pub found-is : asOption r ≡ chosen (plan jobs arcs sections times) (state t e m f)
+    found-is = is ∙ chosen-same
+
+    pub found-at : (j : ℕ) → r ≡ At j → chosen (plan jobs arcs sections times) (state t e m f) ≡ some j
+    found-at j q = sym found-is ∙ ap asOption q
+
+    pub found-none : r ≡ Nothing → chosen (plan jobs arcs sections times) (state t e m f) ≡ none
+    found-none q = sym found-is ∙ ap asOption q

@@ -2,19 +2,18 @@
 use mathlib.Core.Path.{_≡_, refl, sym, _∙_, ap}
 use mathlib.Core.Bool.{Bool, true, false, cond}
 use mathlib.Core.List.{List, [], _∷_, _++_}
-use Prim.Native.Nat.{ℕ, zero, suc, _+_, _*_, _/_, _-_, _≤_, _<_, max}
+use Prim.Native.Nat.{ℕ, zero, suc, _+_, _-_, _≤_, _<_, max}
 use native.Mathlib.Numerals.{add-one}
 use native.Mathlib.Omega.{arith}
 use lib.Dec.{ltb}
-use lib.IntN.{ℤ, pos, negsuc, subℕ, _-ℤ_}
+use lib.IntN.{pos, negsuc, subℕ, _-ℤ_}
 use lib.Signed.{mag}
-use lib.ListN.{length, getD, set, take, drop, replicate, length-set, take-append-drop}
+use lib.ListN.{length, set, take, drop, replicate, length-set, take-append-drop}
 use lib.Seq.{take-suc-set, drop-set-lt, drop-drop}
 use borrow.Author.Tests.{le-ltb}
 use Rattle.rules.specs.Rows.{largest}
 use Rattle.rules.specs.Table.{Plan, State}
 use Rattle.rules.specs.Refusals.{allFinished}
-use Rattle.rules.specs.Tick.{tick}
 use Rattle.rules.specs.Run.{answered}
 use Rattle.dispatch.specs.Lists.{Fit}
 
@@ -70,7 +69,7 @@ difference-small m a b h g = go (ltb a b)
     go true = omega arith
     go false = omega arith
 
--- ---- a run, tick by tick
+-- ---- a run and what is left of it
 
 -- lists of the same lengths fit as well
 pub fit-same : {jobs arcs sections times e m f e′ m′ f′ : List ℕ} → Fit jobs arcs sections times e m f
@@ -104,13 +103,6 @@ module _ {p : Plan} {st : State} {end : ℕ} {r : State} (g : Going p st end r) 
   run-stops l e =
       let z : end - st .tick ≡ suc (end - suc (st .tick)) = omega arith in
       rw (z, e) at (g .left)
-
-  pub run-goes : (st′ : State) → st′ .tick ≡ st .tick + 1 → st .tick < end → allFinished p st ≡ false → st′ ≡ tick p st false → Going p st′ end r
-  unfolding answered
-  run-goes st′ n l e q =
-      let z : end - st .tick ≡ suc (end - suc (st .tick)) = omega arith in
-      let w : end - st′ .tick ≡ end - suc (st .tick) = omega arith in
-      record { soon = omega arith; left = rw (w, q) (rw (z, e) at (g .left)) }
 
 pub run-begins : (p : Plan) (st : State) (end : ℕ) → st .tick ≡ 0 → Going p st end (answered p end st)
 run-begins p st end e = let z : end - st .tick ≡ end = omega arith in record { soon = omega arith; left = rw z }

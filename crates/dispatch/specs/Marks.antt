@@ -1,19 +1,19 @@
 -- Laws for the mark rule: looking through the arcs for a stale tail is looking through the direct predecessors.
-use mathlib.Core.Path.{_≡_, refl, sym, _∙_, ap}
-use mathlib.Core.Logic.{_≢_, _⊎_, inl, inr, ⊎-elim}
-use mathlib.Core.Bool.{Bool, true, false, _&&_, _||_}
+use mathlib.Core.Path.{_≡_, refl, _∙_, ap}
+use mathlib.Core.Logic.{_≢_, _⊎_, ⊎-elim}
+use mathlib.Core.Bool.{Bool, _&&_, _||_}
 use mathlib.Core.List.{List, []}
-use Prim.Native.Nat.{ℕ, _+_, _*_, _/_, _≤_, _<_}
-use native.Mathlib.Omega.{arith}
+use Prim.Native.Nat.{ℕ, _+_, _*_, _/_, _<_}
 use lib.ListN.{length, getD, set}
 use lib.Dec.{eqb}
 use Rattle.rules.specs.Rows.{any}
 use borrow.Author.Tests.{eq-eqb, ne-eqb}
 use Rattle.rules.specs.Table.{precedes}
-use Rattle.rules.specs.Tick.{ends, endsBadly, endsStale, markFor, advance}
-use Rattle.laws.specs.Tests.{Says, so, not-so, clash, bool-says, eq-says, says-and, yes-says, no-says, yes-of}
+use Rattle.rules.specs.Tick.{endsBadly, endsStale, markFor}
+use Rattle.laws.specs.Tests.{Says, so, not-so, eq-says, says-and}
 use Rattle.laws.specs.Rows.{any-says}
 use Rattle.laws.specs.Reach.{Arc, precedes-says}
+use Rattle.laws.specs.Events.{advanceBy}
 use Rattle.dispatch.specs.Lists.{plan, state, ArcsFit}
 
 -- arc a leads from a stale job to this one
@@ -56,17 +56,17 @@ module _ (arcs marks : List ℕ) (job n : ℕ) (fit : ArcsFit arcs n) where
           (λ k. absurd (k (ap (λ j. getD marks j 0) (e .0 .tail) ∙ e .1)))
           (w (e .0 .number) (e .0 .in-table))
 
--- ---- what a given tick writes, each way out
+-- ---- what given ticks write, each way out
 
-module _ (jobs arcs executed marks finish : List ℕ) (now : ℕ) (silent : Bool) (job n : ℕ) (count : length jobs / 3 ≡ n) where
-  pub tick-ends : (m : ℕ) → getD executed job 0 + 1 ≡ getD jobs (3 * job + 1) 0 → m ≡ markFor (silent || staleBefore arcs marks job n)
-      → state (now + 1) (set executed job (getD executed job 0 + 1)) (set marks job m) (set finish job (now + 1))
-      ≡ advance (plan jobs arcs [] []) (state now executed marks finish) silent job
-  unfolding advance ends endsStale endsBadly staleBefore
-  tick-ends m e q = rw (q, eq-eqb _ _ e, ← count)
+module _ (jobs arcs executed marks finish : List ℕ) (now : ℕ) (silent : Bool) (job ticks n : ℕ) (count : length jobs / 3 ≡ n) where
+  pub ticks-end : (m : ℕ) → getD executed job 0 + ticks ≡ getD jobs (3 * job + 1) 0 → m ≡ markFor (silent || staleBefore arcs marks job n)
+      → state (now + ticks) (set executed job (getD executed job 0 + ticks)) (set marks job m) (set finish job (now + ticks))
+      ≡ advanceBy (plan jobs arcs [] []) (state now executed marks finish) silent job ticks
+  unfolding advanceBy endsStale endsBadly staleBefore
+  ticks-end m e q = rw (q, eq-eqb _ _ e, ← count)
 
-  pub tick-goes-on : (getD executed job 0 + 1 ≡ getD jobs (3 * job + 1) 0 → ⊥)
-      → state (now + 1) (set executed job (getD executed job 0 + 1)) marks finish
-      ≡ advance (plan jobs arcs [] []) (state now executed marks finish) silent job
-  unfolding advance ends
-  tick-goes-on e = rw (ne-eqb _ _ e)
+  pub ticks-go-on : (getD executed job 0 + ticks ≡ getD jobs (3 * job + 1) 0 → ⊥)
+      → state (now + ticks) (set executed job (getD executed job 0 + ticks)) marks finish
+      ≡ advanceBy (plan jobs arcs [] []) (state now executed marks finish) silent job ticks
+  unfolding advanceBy
+  ticks-go-on e = rw (ne-eqb _ _ e)

@@ -1,25 +1,21 @@
 -- What follows from the promises: each settles its results, a run is single steps, and a step is one tick.
 use mathlib.Core.Path.{_≡_, refl, sym, _∙_, ap}
-use mathlib.Core.Logic.{_≢_, _⊎_, inl, inr, ⊎-elim}
-use mathlib.Core.Bool.{Bool, true, false, cond, _&&_}
-use mathlib.Core.List.{List, [], _∷_}
+use mathlib.Core.Bool.{Bool, true, false, cond}
+use mathlib.Core.List.{List}
 use mathlib.Core.Option.{Option, none, some}
-use Prim.Native.Nat.{ℕ, zero, suc, _+_, _≤_, _<_}
+use Prim.Native.Nat.{ℕ, _+_, _≤_, _<_}
 use native.Mathlib.Omega.{arith}
 use native.Mathlib.Decide.{ℕ-discrete}
-use lib.Dec.{leb}
 use lib.ListN.{length, getD, set, replicate, length-set}
 use lib.Seq.{getD-set-same, getD-set-other}
-use lib.IntN.{ℤ}
-use Rattle.rules.specs.Table.{Plan, State, jobCount, cost, lastTick, modifiedRelease, executed}
-use Rattle.rules.specs.Refusals.{Fault, Outcome, faultOf, planInBounds, allFinished, stepFault}
-use Rattle.rules.specs.Tick.{pending, chosen, ends, endsStale, markFor, advance, move, tick}
-use Rattle.rules.specs.Run.{start, afterReports, allEndBy, endState}
+use Rattle.rules.specs.Table.{Plan, State, jobCount, cost, lastTick, executed}
+use Rattle.rules.specs.Refusals.{faultOf, planInBounds, allFinished, stepFault}
+use Rattle.rules.specs.Tick.{chosen, ends, endsStale, markFor, advance, move, tick}
+use Rattle.rules.specs.Run.{afterReports, allEndBy, endState}
 use Rattle.rules.specs.declared.Refusal.{Refusal}
-use Rattle.laws.specs.Tests.{bool-says, lt-says, says-and, yes-says}
 use Rattle.laws.specs.Answers.{fault-settles}
 use Rattle.run_laws.specs.Theorems.{end-reached}
-use Rattle.dispatch.specs.Choice.{chosen-pending}
+use Rattle.laws.specs.Chosen.{chosen-left}
 use Rattle.dispatch.specs.Lists.{state}
 use Rattle.dispatch.specs.Judged.{inBounds, JobStateIn, StateIn, state-in, in-state, step-good}
 use Rattle.dispatch.specs.Promise.{Result, said, Steps, Lists, Reach, told, Starts, Runs, asked, Lateness}
@@ -147,10 +143,6 @@ may-set-most : (b : Bool) (l : List ℕ) (j v k m : ℕ) → k < length l → v 
 may-set-most true l j v k m h x y = set-most l j v k m h x y
 may-set-most false l j v k m h x y = y
 
-pending-left : (p : Plan) (st : State) (j : ℕ) → pending p st j ≡ true → executed st j < cost (p .table) j
-unfolding pending
-pending-left p st j e = yes-says (says-and (bool-says (leb (modifiedRelease p j) (st .tick))) (lt-says (executed st j) (cost (p .table) j))) e .1
-
 -- A good step keeps within 12's bounds.
 pub good-step : (p : Plan) (st : State) (silent : Bool) → stepFault p st ≡ none → inBounds p (tick p st silent) ≡ true
 unfolding inBounds tick advance
@@ -168,7 +160,7 @@ good-step p st silent e =
     ran-most j c k h x =
         elim (ℕ-discrete k j) [
           | yes q ↦
-              (let w : executed st j < cost (p .table) j = pending-left p st j (chosen-pending p st j c) in
+              (let w : executed st j < cost (p .table) j = chosen-left p st j c in
               rw q (omega (arith, getD-set-same (st .executed) j (executed st j + 1) 0 (omega arith))))
           | no q ↦ omega (arith, getD-set-other (st .executed) j k (executed st j + 1) 0 q)
         ]

@@ -139,7 +139,7 @@ pub fn first_job(
 }
 
 // A number of a section's row.
-fn entry(sections: &[u32], k: usize) -> usize
+pub fn entry(sections: &[u32], k: usize) -> usize
     requires { ⌜ k < length (now sections) ⌝ }
     ensures { λ r. ⌜ r ≡ getD (now (sections .entry)) k 0 ⌝ }
 {

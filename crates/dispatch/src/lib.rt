@@ -1,6 +1,7 @@
 // One tick, a whole run, lateness.
 mod choice;
 mod ends;
+mod events;
 mod tick;
 
 use crate::choice::Found;
@@ -193,7 +194,7 @@ pub fn start(
     Reached::Tick(0)
 }
 
-// Runs a judged plan from its start to its end, every report answered: the tick of the end state.
+// Runs a judged plan from its start to its end, every report answered, from event to event: the tick of the end state.
 fn run_on(
     jobs: &[u32],
     arcs: &[u32],
@@ -215,18 +216,17 @@ fn run_on(
         if tick::all_finished(jobs, executed) {
             return tick;
         }
-        tick::one_tick(
+        tick = events::skip(
             jobs,
             arcs,
             sections,
             times,
             tick,
+            end,
             executed,
             marks,
             finish,
-            false,
         );
-        tick += 1;
     }
     tick
 }

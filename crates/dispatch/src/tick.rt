@@ -9,7 +9,8 @@ ghost use lib.Dec.{ltb, leb, eqb};
 ghost use lib.ListN.{length, getD};
 ghost use Rattle.rules.specs.Rows.{all, any};
 ghost use Rattle.rules.specs.Refusals.{allFinished, jobStateRight, stateInBounds};
-ghost use Rattle.rules.specs.Tick.{markFor, advance};
+ghost use Rattle.rules.specs.Tick.{markFor};
+ghost use Rattle.laws.specs.Events.{advanceBy};
 ghost use Rattle.dispatch.specs.Marks.{bringsStale, staleBefore};
 ghost use Rattle.dispatch.specs.Lists.{plan, timed, state, at, asOption, Within, Sized, SectionsFit, ArcsFit, Same, Fit, Ticked};
 
@@ -55,8 +56,9 @@ fn mark_at_end(arcs: &[u32], marks: &[u32], silent: bool, job: usize) -> u32
     1
 }
 
-// Gives the job this tick; one that ends with it is marked, and its finish is the tick after it.
-fn give_tick(
+// Gives the job so many ticks from this one on; if it ends with the last, it is marked by that one's report, and its finish is
+// the tick after it.
+pub fn give_ticks(
     jobs: &[u32],
     arcs: &[u32],
     tick: u32,
@@ -65,17 +67,18 @@ fn give_tick(
     finish: &mut [u32],
     silent: bool,
     job: usize,
+    ticks: u32,
 )
     requires { ⌜ Same (now jobs) (now executed) (now marks) (now finish) × ArcsFit (now arcs) (length (now marks)) × (job < length (now executed)) ⌝ }
-    requires { ⌜ (getD (now executed) job 0 < getD (now jobs) (3 * job + 1) 0) × (tick < 10000000) ⌝ }
-    ensures { λ r. ⌜ state (tick + 1) (now (executed .exit)) (now (marks .exit)) (now (finish .exit))
-        ≡ advance (plan (now (jobs .entry)) (now (arcs .entry)) [] []) (state tick (now (executed .entry)) (now (marks .entry)) (now (finish .entry))) silent job ⌝ }
+    requires { ⌜ (getD (now executed) job 0 + ticks ≤ getD (now jobs) (3 * job + 1) 0) × (tick + ticks ≤ 10000000) ⌝ }
+    ensures { λ r. ⌜ state (tick + ticks) (now (executed .exit)) (now (marks .exit)) (now (finish .exit))
+        ≡ advanceBy (plan (now (jobs .entry)) (now (arcs .entry)) [] []) (state tick (now (executed .entry)) (now (marks .entry)) (now (finish .entry))) silent job ticks ⌝ }
 {
-    let done = executed[job] + 1;
+    let done = executed[job] + ticks;
     executed[job] = done;
     if done == jobs[3 * job + 1] {
         marks[job] = mark_at_end(arcs, marks, silent, job);
-        finish[job] = tick + 1;
+        finish[job] = tick + ticks;
     }
 }
 
@@ -99,7 +102,9 @@ pub fn one_tick(
     let ran = choice::choose(jobs, sections, times, tick, executed);
     match ran {
         Found::Nothing => {}
-        Found::At(job) => give_tick(jobs, arcs, tick, executed, marks, finish, silent, job),
+        Found::At(job) => {
+            give_ticks(jobs, arcs, tick, executed, marks, finish, silent, job, 1);
+        }
     }
     ran
 }

@@ -11,6 +11,7 @@ use Rattle.rules.specs.Tick.{tightest, spanOf, ceiling, belowCeiling, units, he
 use Rattle.laws.specs.Tests.{
   Says,
   so,
+  clash,
   lt-says,
   eq-says,
   bool-says,
@@ -110,6 +111,16 @@ module _ (p : Plan) where
       go (inl z) = omega arith
       go (inr h) = omega (arith, h s (record { listed = l; on = refl }))
 
+  -- More: what does not clear at so many units held does not at more.
+  pub clears-more : (d q busy more : ℕ) → busy ≤ more → clears p d q busy ≡ false → clears p d q more ≡ false
+  clears-more d q busy more l e =
+      let (n, r) = no-says (clears-says d q busy) e in
+      no-of (clears-says d q more) (λ w. go w (λ z. n (omega arith)) r)
+    where
+      go : Clear d q more → more ≢ 0 → Reached d q → ⊥
+      go (inl z) n r = n z
+      go (inr h) n (s, on, u) = omega (arith, h s on)
+
   -- where nothing is held, everything clears
   pub clears-free : (d q : ℕ) → clears p d q 0 ≡ true
   clears-free d q = yes-of (clears-says d q 0) (λ n. n .0 refl)
@@ -122,3 +133,9 @@ module _ (p : Plan) where
       (mayStart p st j)
   unfolding mayStart
   may-says st j = all-says _ _ (λ q. clears p (span p j) q (held p st q)) (λ q. bool-says (clears p (span p j) q (held p st q))) resources
+
+  -- Who may not start may not where more is held.
+  pub stuck-more : (st st′ : State) (j : ℕ) → ((q : ℕ) → held p st q ≤ held p st′ q) → mayStart p st j ≡ false → mayStart p st′ j ≡ false
+  stuck-more st st′ j more e =
+      let (q, l, c) = no-says (may-says st j) e in
+      no-of (may-says st′ j) (λ w. clash (w q l) (clears-more (span p j) q (held p st q) (held p st′ q) (more q) c))

@@ -67,8 +67,14 @@ module _ (before : ℕ → ℕ → Bool) (passes : ℕ → Bool) (O : Order befo
   first-of zero = nobody (λ k l. absurd (omega arith))
   first-of (suc n) = turn n (better-view before n (passes n) (first before passes n)) refl (first-of n)
 
+-- who is found is below n and passes
+pub first-told : {before : ℕ → ℕ → Bool} {passes : ℕ → Bool} {n : ℕ} {o : Option ℕ} → FirstOf before passes n o
+    → (j : ℕ) → o ≡ some j → (j < n) × (passes j ≡ true)
+first-told (nobody h) j e = let z : _≡_ {A = ℕ} 0 1 = cc in absurd (omega arith)
+first-told (found {x} l p h) j e = let q : x ≡ j = cc in rw (← q) (l, p)
+
 -- tests that agree find the same first
-pub first-ext : (before : ℕ → ℕ → Bool) (f g : ℕ → Bool) → ((k : ℕ) → f k ≡ g k) → (n : ℕ) → first before f n ≡ first before g n
+pub first-ext : (before : ℕ → ℕ → Bool) (f g : ℕ → Bool) (n : ℕ) → ((k : ℕ) → k < n → f k ≡ g k) → first before f n ≡ first before g n
 unfolding first
-first-ext before f g same zero = refl
-first-ext before f g same (suc n) = rw (first-ext before f g same n, same n)
+first-ext before f g zero same = refl
+first-ext before f g (suc n) same = rw (first-ext before f g n (λ k l. same k (omega arith)), same n (omega arith))

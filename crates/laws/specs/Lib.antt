@@ -4,6 +4,8 @@ pub mod Rows
 pub mod First
 pub mod Order
 pub mod Clears
+pub mod Chosen
+pub mod Events
 pub mod Reach
 pub mod Times
 pub mod Refusals

@@ -86,6 +86,11 @@ pub sum-more : (f : ℕ → ℕ) (n : ℕ) → sum f (n + 1) ≡ sum f n + f n
 unfolding sum
 sum-more f n = rw add-one
 
+pub smallest-more : (passes : ℕ → Bool) (f : ℕ → ℕ) (base n : ℕ)
+    → smallest passes f base (n + 1) ≡ cond (passes n) (min (smallest passes f base n) (f n)) (smallest passes f base n)
+unfolding smallest
+smallest-more passes f base n = rw add-one
+
 -- ---- rows that agree
 
 module _ (f g : ℕ → Bool) where
@@ -173,7 +178,7 @@ unfolding count sum
 count-sum f zero = refl
 count-sum f (suc n) = rw (count-sum f n)
 
-bit-le : (a b : Bool) → (a ≡ true → b ≡ true) → cond a 1 0 ≤ cond b 1 0
+pub bit-le : (a b : Bool) → (a ≡ true → b ≡ true) → cond a 1 0 ≤ cond b 1 0
 bit-le true b h = rw (h refl) (omega arith)
 bit-le false b h = omega arith
 
@@ -245,6 +250,11 @@ module _ (passes : ℕ → Bool) (f : ℕ → ℕ) (base : ℕ) where
   smallest-least (suc n) m b h =
       let ih = smallest-least n m b (λ k l. h k (omega arith)) in
       turn (λ x. m ≤ x) (passes n) _ _ ih (λ e. omega (arith, h n (omega arith) e))
+
+  -- among more rows it is no larger
+  pub smallest-falls : (m n : ℕ) → m ≤ n → smallest passes f base n ≤ smallest passes f base m
+  smallest-falls m n l =
+      smallest-least m (smallest passes f base n) (smallest-base n) (λ k h e. smallest-at n k (omega arith) e)
 
 module _ (passes passes′ : ℕ → Bool) (f g : ℕ → ℕ) (base : ℕ) where
   pub largest-ext : (n : ℕ) → ((k : ℕ) → k < n → passes k ≡ passes′ k) → ((k : ℕ) → k < n → passes k ≡ true → f k ≡ g k)

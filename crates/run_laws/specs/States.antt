@@ -11,6 +11,7 @@ use Rattle.rules.specs.Rows.{count}
 use Rattle.rules.specs.Table.{Plan, State, jobCount, executed}
 use Rattle.rules.specs.Tick.{chosen, ends, endsStale, markFor, advance, move, tick}
 use Rattle.rules.specs.Run.{start, onward, afterReports, waits, waited}
+use Rattle.laws.specs.Events.{onward-snoc}
 
 -- the report at each place of a list; answered past its end
 abbrev pub reportIn : List Bool → ℕ → Bool
@@ -73,18 +74,13 @@ module _ (p : Plan) where
 
   -- ---- lists of reports
 
-  onward-snoc : (st : State) (xs : List Bool) (r : Bool) → onward p st (xs ++ r ∷ []) ≡ tick p (onward p st xs) r
-  unfolding onward
-  onward-snoc st [] r = refl
-  onward-snoc st (x ∷ xs) r = onward-snoc (tick p st x) xs r
-
   -- The state after the first k reports of a list is the one after k ticks.
   pub front-is : (rs : List Bool) (k : ℕ) → k ≤ length rs → afterReports p (take k rs) ≡ stateAfter (chosen p) (reportIn rs) k
   unfolding afterReports stateAfter tick onward
   front-is rs zero l = refl
   front-is rs (suc k) l =
       rw (take-suc rs k false l)
-      (onward-snoc (start p) (take k rs) (getD rs k false) ∙ ap (λ st. tick p st (getD rs k false)) (front-is rs k (omega arith)))
+      (onward-snoc p (start p) (take k rs) (getD rs k false) ∙ ap (λ st. tick p st (getD rs k false)) (front-is rs k (omega arith)))
 
   pub whole-is : (rs : List Bool) → afterReports p rs ≡ stateAfter (chosen p) (reportIn rs) (length rs)
   whole-is rs = rw (take-length rs) at (front-is rs (length rs) (omega arith))

@@ -1,5 +1,6 @@
 -- What is left of the run comes to what the whole run comes to.
-use Rattle.dispatch.specs.Ends.{Going, fit-same, run-begins, run-over, run-stops, run-goes}
+use Rattle.dispatch.specs.Ends.{Going, fit-same, run-begins, run-over, run-stops}
+use Rattle.dispatch.specs.Events.{run-skips}
 use Rattle.dispatch.specs.Lists.{plan, state, Fit}
 use Rattle.rules.specs.Run.{answered}
 use Rattle.rules.specs.Refusals.{allFinished}
@@ -40,16 +41,13 @@ returns c =
     let l = c .before .before .before .before in
     rw (← l .before .all-end-by .ensures .0) (run-stops (l .loop .inv .2) (omega arith) (sym (c .before .all-finished .ensures) ∙ c .if1 .taken))
 
-one-tick-requires : tie.Need-one-tick-requires Inv-loop μ-loop
-one-tick-requires c κs =
+skip-requires : tie.Need-skip-requires Inv-loop μ-loop
+skip-requires c κs =
     let l = c .before .before .before .before .before .before .before in
-    (l .loop .inv .1, omega arith)
-
-add-tick : tie.Need-add-tick Inv-loop μ-loop
-add-tick c = search needs
+    (l .loop .inv .1, omega arith, omega arith)
 
 loop-less : tie.Need-loop-less Inv-loop μ-loop
-loop-less c = search needs
+loop-less c = let s = c .before .before .before .before .before .before .skip .ensures in omega (arith, s .rises, s .soon, s .time)
 
 loop-again : tie.Need-loop-again Inv-loop μ-loop
 unfolding allFinished
@@ -59,7 +57,7 @@ loop-again c =
     let l = e .before .before .before .before in (
       l .loop .inv .0,
       fit-same (l .loop .inv .1) (omega arith) (omega arith) (omega arith),
-      run-goes (l .loop .inv .2) _ refl (omega arith) (sym (e .before .all-finished .ensures) ∙ e .if1 .left) (t .one-tick .ensures .1 .becomes),
+      run-skips (l .loop .inv .2) _ (sym (e .before .all-finished .ensures) ∙ e .if1 .left) (t .skip .ensures),
     )
 
 same-length-4 : tie.Need-same-length-4 Inv-loop μ-loop
@@ -87,8 +85,7 @@ run-on-spec =
     same-length-2
     same-length-3
     returns
-    one-tick-requires
-    add-tick
+    skip-requires
     loop-less
     loop-again
     same-length-4

@@ -1,5 +1,6 @@
 -- Rules 1 to 4: the first pending job, its start or the test of the ceilings, else the first started one.
-use Rattle.dispatch.specs.Choice.{first-pending-is, first-started-is, may-start-is, chosen-idle, chosen-resumes, chosen-starts, chosen-detains}
+use Rattle.dispatch.specs.Choice.{first-pending-is, first-started-is, may-start-is}
+use Rattle.laws.specs.Chosen.{chosen-idle, chosen-resumes, chosen-starts, chosen-detains}
 use Rattle.dispatch.specs.Lists.{plan, at, asOption, candidate, clearOf}
 use Rattle.rules.specs.Tick.{pending, started, firstPending, mayStart}
 use Rattle.rules.specs.Order.{comesBefore}

@@ -2,9 +2,9 @@
 use mathlib.Core.Bool.{and-true}
 use Rattle.rules.specs.Tick.{holds, pending}
 use mathlib.Core.Path.{_∙_}
-use Prim.Native.Nat.{_<_}
+use Prim.Native.Nat.{ℕ, _+_, _*_, _≤_, _<_}
 use native.Mathlib.Omega.{arith}
-use lib.ListN.{length}
+use lib.ListN.{length, getD}
 use borrow.Author.Tests.{le-ltb, lt-ltb}
 use borrow.Author.Needs.{needs}
 use Rattle.dispatch.proofs.choice.is_held.Statement.{statement}
@@ -13,6 +13,13 @@ use Rattle.dispatch.proofs.choice.is_held.Tie as tie
 -- the section's job is in the table
 job-in : (c : tie.After-entry) → c .entry .result < length (c .before .before .before .before .before .args .executed .now)
 job-in c = let h = c .before .before .before .before .before .pre .1 .inside (c .before .before .before .before .before .args .s) (omega arith) in omega arith
+
+-- what the job has executed, and a column of the section's row
+abbrev done : tie.After-entry → ℕ
+done c = getD (c .before .before .before .before .before .args .executed .now) (c .entry .result) 0
+
+abbrev column : tie.After-entry → ℕ → ℕ
+column c k = let a = c .before .before .before .before .before .args in getD (a .sections .now) (4 * a .s + k) 0
 
 mul-entry : tie.Need-mul-entry
 mul-entry c = search needs
@@ -40,7 +47,10 @@ shared-slice-read-if1 c = search needs
 
 returns : tie.Need-returns
 unfolding holds
-returns c = rw (← c .before .before .before .entry .ensures, le-ltb _ _ (c .if1 .taken))
+returns c =
+    let e = c .before .before .before in
+    let h : done e ≤ column e 2 = omega arith in
+    rw (← e .entry .ensures, le-ltb _ _ h)
 
 mul-if2 : tie.Need-mul-if2
 mul-if2 c = search needs
@@ -56,7 +66,11 @@ shared-slice-read-if2 c = search needs
 
 returns-2 : tie.Need-returns-2
 unfolding holds
-returns-2 c = rw (← c .before .before .before .before .before .entry .ensures, lt-ltb _ _ (c .before .before .if1 .left), le-ltb _ _ (c .if2 .taken))
+returns-2 c =
+    let e = c .before .before .before .before .before in
+    let h : column e 2 < done e = omega arith in
+    let g : column e 3 ≤ done e = omega arith in
+    rw (← e .entry .ensures, lt-ltb _ _ h, le-ltb _ _ g)
 
 release-of-requires : tie.Need-release-of-requires
 release-of-requires c κs = let h = job-in (c .before .before .before .before .before) in omega arith
@@ -79,13 +93,10 @@ is-candidate-requires c κs = search needs
 returns-3 : tie.Need-returns-3
 unfolding holds pending
 returns-3 c =
-    let e = c .before .before .before in
-    rw (
-      ← e .before .before .before .before .before .entry .ensures,
-      lt-ltb _ _ (e .before .before .if1 .left),
-      lt-ltb _ _ (e .if2 .left),
-      ← c .before .before .release-of .ensures,
-    )
+    let e = c .before .before .before .before .before .before .before .before in
+    let h : column e 2 < done e = omega arith in
+    let g : done e < column e 3 = omega arith in
+    rw (← e .entry .ensures, lt-ltb _ _ h, lt-ltb _ _ g, ← c .before .before .release-of .ensures)
     (c .is-candidate .ensures ∙ and-true _)
 
 pub is-held-spec : {M : Type 1} → statement M

@@ -1,6 +1,5 @@
 -- The two parts of the bound, added.
 use Rattle.rules.specs.Run.{allEndBy}
-use mathlib.Core.Path.{refl}
 use native.Mathlib.Omega.{arith}
 use borrow.Author.Needs.{needs}
 use Rattle.dispatch.proofs.ends.all_end_by.Statement.{statement}
@@ -20,7 +19,7 @@ unfolding allEndBy
 returns c =
     let t = c .total-cost .ensures in
     let r = c .before .last-release .ensures in
-    (rw (← r .0, ← t .0) refl, omega arith)
+    (omega arith, omega arith)
 
 pub all-end-by-spec : {M : Type 1} → statement M
 all-end-by-spec = tie.close (tie.spec last-release-requires total-cost-requires add-result returns)

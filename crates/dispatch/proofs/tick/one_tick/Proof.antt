@@ -1,12 +1,12 @@
 -- The choice, and what it does: idle or a given tick.
-use Rattle.dispatch.specs.Choice.{chosen-same, tick-idle, tick-runs}
-use Rattle.dispatch.specs.Choice.{chosen-pending}
-use Rattle.dispatch.specs.Lists.{plan, state, at, asOption, within-at}
-use Rattle.laws.specs.Tests.{le-says, lt-says, says-and, yes-says}
-use Rattle.rules.specs.Tick.{pending, chosen, tick, advance}
+use Rattle.dispatch.specs.Choice.{found-is, found-at, found-none}
+use Rattle.laws.specs.Chosen.{chosen-left, tick-idle, tick-runs}
+use Rattle.dispatch.specs.Lists.{plan, state, within-at}
+use Rattle.rules.specs.Tick.{chosen, tick}
+use Rattle.laws.specs.Events.{advanceBy, advance-one}
 use Rattle.rules.specs.Table.{Plan, State}
-use mathlib.Core.Path.{_≡_, sym, _∙_, ap}
-use mathlib.Core.Option.{none, some}
+use mathlib.Core.Path.{_≡_, sym, _∙_}
+use mathlib.Core.Option.{some}
 use Prim.Native.Nat.{ℕ, _+_, _*_, _<_}
 use native.Mathlib.Omega.{arith}
 use lib.ListN.{length, getD}
@@ -23,10 +23,6 @@ P c = plan (c .args .jobs .now) (c .args .arcs .now) (c .args .sections .now) (c
 abbrev S : tie.Start → State
 S c = state (c .args .tick) (c .args .executed .now) (c .args .marks .now) (c .args .finish .now)
 
--- the choice looks at neither arcs nor marks
-choice : (c : tie.After-choose) → asOption (c .choose .result) ≡ chosen (P (begin c)) (S (begin c))
-choice c = c .choose .ensures .1 ∙ chosen-same _ _ _ _ _ _ _ _
-
 abbrev made : tie.After-ran → tie.After-choose
 made c = c .before .before
 
@@ -34,18 +30,13 @@ abbrev job : tie.After-ran → ℕ
 job c = c .ran .given .0 .0
 
 runs : (c : tie.After-ran) → chosen (P (begin (made c))) (S (begin (made c))) ≡ some (job c)
-runs c = sym (choice (made c)) ∙ ap asOption (c .ran .given .1)
+runs c = found-at _ _ _ _ _ _ _ _ _ (made c .choose .ensures .1) _ (c .ran .given .1)
 
 in-table : (c : tie.After-ran) → job c < length (begin (made c) .args .executed .now)
 in-table c = within-at _ _ _ (made c .choose .ensures .0) (c .ran .given .1)
 
 unfinished : (c : tie.After-ran) → getD (begin (made c) .args .executed .now) (job c) 0 < getD (begin (made c) .args .jobs .now) (3 * job c + 1) 0
-unfolding pending
-unfinished c =
-    yes-says
-    (says-and (le-says (getD (begin (made c) .args .times .now) (2 * job c) 0) (begin (made c) .args .tick)) (lt-says _ _))
-    (chosen-pending (P (begin (made c))) (S (begin (made c))) (job c) (runs c))
-    .1
+unfinished c = chosen-left (P (begin (made c))) (S (begin (made c))) (job c) (runs c)
 
 choose-requires : tie.Need-choose-requires
 choose-requires c κs = search needs
@@ -56,12 +47,12 @@ enum-told c = search needs
 enum-known-ran : tie.Need-enum-known-ran
 enum-known-ran c = search needs
 
-give-tick-requires : tie.Need-give-tick-requires
-give-tick-requires c κs =
+give-ticks-requires : tie.Need-give-ticks-requires
+give-ticks-requires c κs =
     let r = c .before .before .before .before in
     let b = begin (made r) in
     let f = b .pre .0 in
-    ((f .lists, rw (f .lists .marked) (f .arcs-fit), in-table r), (unfinished r, omega arith))
+    ((f .lists, rw (f .lists .marked) (f .arcs-fit), in-table r), (omega (arith, unfinished r), omega arith))
 
 same-length : tie.Need-same-length
 same-length c = search needs
@@ -69,8 +60,8 @@ same-length c = search needs
 returns : tie.Need-returns
 returns c =
     let m = c .before .before in
-    let e : chosen (P (begin m)) (S (begin m)) ≡ none = sym (choice m) ∙ ap asOption (c .enum-told .given .1) in
-    (m .choose .ensures .0, record { who = choice m; becomes = tick-idle _ _ _ e })
+    let w = m .choose .ensures in
+    (w .0, record { who = found-is _ _ _ _ _ _ _ _ (m .choose .result) (w .1); becomes = tick-idle _ _ _ (found-none _ _ _ _ _ _ _ _ _ (w .1) (c .enum-told .given .1)) })
 
 same-length-2 : tie.Need-same-length-2
 same-length-2 c = search needs
@@ -82,10 +73,10 @@ same-length-4 : tie.Need-same-length-4
 same-length-4 c = search needs
 
 returns-2 : tie.Need-returns-2
-unfolding advance
+unfolding advanceBy
 returns-2 c =
     let r = c .before .before .before .before .before .before .before .before .before .before .before in
-    (in-table r, record { who = sym (runs r); becomes = c .before .before .before .before .before .before .give-tick .ensures ∙ tick-runs _ _ _ _ (runs r) })
+    (in-table r, record { who = sym (runs r); becomes = c .before .before .before .before .before .before .give-ticks .ensures ∙ advance-one _ _ _ _ ∙ tick-runs _ _ _ _ (runs r) })
 
 pub one-tick-spec : {M : Type 1} → statement M
 one-tick-spec =
@@ -94,7 +85,7 @@ one-tick-spec =
     choose-requires
     enum-told
     enum-known-ran
-    give-tick-requires
+    give-ticks-requires
     same-length
     returns
     same-length-2

@@ -1,11 +1,11 @@
--- The stores are those of `advance`, with or without the end of the job.
-use Rattle.dispatch.specs.Marks.{tick-ends, tick-goes-on}
+-- The stores are those of `advanceBy`, with or without the end of the job.
+use Rattle.dispatch.specs.Marks.{ticks-end, ticks-go-on}
 use mathlib.Core.Path.{refl}
 use Prim.Native.Nat.{_+_, _*_}
 use native.Mathlib.Omega.{arith}
 use borrow.Author.Needs.{needs}
-use Rattle.dispatch.proofs.tick.give_tick.Statement.{statement}
-use Rattle.dispatch.proofs.tick.give_tick.Tie as tie
+use Rattle.dispatch.proofs.tick.give_ticks.Statement.{statement}
+use Rattle.dispatch.proofs.tick.give_ticks.Tie as tie
 
 mul-done : tie.Need-mul-done
 mul-done c = search needs
@@ -64,16 +64,16 @@ same-length-3 : tie.Need-same-length-3
 same-length-3 c = search needs
 
 returns : tie.Need-returns
-returns c = tick-ends _ _ _ _ _ _ _ _ _ (omega arith) _ (c .before .before .if1 .taken) (c .mark-at-end .ensures)
+returns c = ticks-end _ _ _ _ _ _ _ _ _ _ (omega arith) _ (c .before .before .if1 .taken) (c .mark-at-end .ensures)
 
 same-length-4 : tie.Need-same-length-4
 same-length-4 c = search needs
 
 returns-2 : tie.Need-returns-2
-returns-2 c = tick-goes-on _ _ _ _ _ _ _ _ _ refl (c .if1 .left)
+returns-2 c = ticks-go-on _ _ _ _ _ _ _ _ _ _ refl (c .if1 .left)
 
-pub give-tick-spec : {M : Type 1} → statement M
-give-tick-spec =
+pub give-ticks-spec : {M : Type 1} → statement M
+give-ticks-spec =
     tie.close
     (tie.spec
     mul-done
