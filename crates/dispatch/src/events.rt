@@ -59,8 +59,8 @@ fn stop_by(sections: &[u32], job: usize, done: u32, s: usize, stop: u32) -> u32
     stop
 }
 
-// The executed ticks at which the job next passes the end of one of its sections, and at most its cost. No stop is nearer than
-// the next tick, so none is looked for behind it.
+// The executed ticks at which the job next passes the end of one of its sections, and at most its cost. Nothing is nearer than
+// its next tick, so a stop there ends the look.
 fn next_stop(sections: &[u32], job: usize, done: u32, cost: u32) -> u32
     requires { ⌜ done < cost ⌝ }
     ensures { λ r. ⌜ r ≡ nextStop (now (sections .entry)) job done cost (length (now (sections .entry)) / 4) ⌝ }
@@ -79,6 +79,7 @@ fn next_stop(sections: &[u32], job: usize, done: u32, cost: u32) -> u32
     stop
 }
 
+// The smaller of two numbers.
 fn smaller(a: u32, b: u32) -> u32
     ensures { λ r. ⌜ r ≡ min a b ⌝ }
 {
