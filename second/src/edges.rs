@@ -5,10 +5,6 @@ use crate::rows::{full, sized, Rows};
 use crate::table::{LARGEST_COST, LARGEST_INSTANT, MOST_ARCS, MOST_JOBS, MOST_SECTIONS, RESOURCES};
 use crate::writer::written;
 
-/// Ticks that a table of several jobs with large costs may run for. A program that goes tick by
-/// tick needs seconds for more; 6,400,000 lets 64 jobs have the largest cost.
-pub const TICKS_OF_MANY: u32 = 6_400;
-
 /// Tables of one job that run longest: the largest cost, the latest release, and both.
 const LONGEST_RUNS: [[u32; 3]; 3] = [
     [0, LARGEST_COST, LARGEST_COST],
@@ -77,10 +73,10 @@ fn counts_at_bounds(random: &mut Random, turn: u32) -> Rows {
     rows
 }
 
-/// Makes a table of up to the most jobs whose costs are as large as their ticks allow.
+/// Makes a table of up to the most jobs, all with the largest cost: up to 6,400,000 ticks.
 fn many_costs(random: &mut Random) -> Rows {
     let count = 2 + random.below(MOST_JOBS as u32 - 1);
-    let cost = (TICKS_OF_MANY / count).min(LARGEST_COST);
+    let cost = LARGEST_COST;
     let mut rows = Rows::default();
     for job in 0..count {
         let due = LARGEST_INSTANT - random.below(3);

@@ -7,9 +7,6 @@ use second::{answer, answer_with, density_answer, density_answer_with};
 use second::{check, read, run, waits, Plan, Refusal};
 use std::collections::{BTreeMap, BTreeSet};
 
-/// Most ticks that all runs take together, for programs that go tick by tick.
-const MOST_TICKS: u64 = 3_000_000;
-
 /// Gives the plan of a text, or its refusal.
 fn planned(text: &[u8]) -> Result<Plan, Refusal> {
     check(&read(text)?)
@@ -150,17 +147,9 @@ fn every_bound_is_met() {
 }
 
 #[test]
-fn runs_are_short_enough_to_go_tick_by_tick() {
-    let ticks = |plan: &Plan| u64::from(run(plan).unwrap().tick);
-    let each: Vec<(usize, u64)> = plans()
-        .iter()
-        .map(|plan| (plan.table.job_count(), ticks(plan)))
-        .collect();
-    let all: u64 = each.iter().map(|(_, ticks)| ticks).sum();
-    assert!(all <= MOST_TICKS, "{all} ticks");
-    let long = each.iter().filter(|(_, ticks)| *ticks > 20_000);
-    assert!(long.clone().all(|(jobs, _)| *jobs == 1), "{long:?}");
-    assert!(long.count() <= 3);
+fn some_runs_are_as_long_as_can_be() {
+    let longest = plans().iter().map(|plan| run(plan).unwrap().tick).max();
+    assert!(longest >= Some(6_400_000), "{longest:?}");
 }
 
 #[test]
