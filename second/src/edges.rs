@@ -41,7 +41,7 @@ pub fn text(random: &mut Random, turn: u32) -> Vec<u8> {
     let single = SINGLE_JOBS[(turn / 8) as usize % SINGLE_JOBS.len()];
     let rows = match turn % 8 {
         0 => counts_at_bounds(random, turn / 8),
-        1 => many_costs(random),
+        1 => many_costs(random, turn / 8),
         2 => one_job(single, &[]),
         3 => long_chain(random, turn / 8),
         4 => deep_sections(random, turn / 8),
@@ -73,9 +73,13 @@ fn counts_at_bounds(random: &mut Random, turn: u32) -> Rows {
     rows
 }
 
-/// Makes a table of up to the most jobs, all with the largest cost: up to 6,400,000 ticks.
-fn many_costs(random: &mut Random) -> Rows {
-    let count = 2 + random.below(MOST_JOBS as u32 - 1);
+/// Makes a table of up to the most jobs, at every fourth turn of the most, all with the largest
+/// cost: up to 6,400,000 ticks.
+fn many_costs(random: &mut Random, turn: u32) -> Rows {
+    let count = match turn % 4 {
+        0 => MOST_JOBS as u32,
+        _ => 2 + random.below(MOST_JOBS as u32 - 1),
+    };
     let cost = LARGEST_COST;
     let mut rows = Rows::default();
     for job in 0..count {
