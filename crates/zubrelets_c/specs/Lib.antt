@@ -1,0 +1,3 @@
+-- What the C interface promises: the answers of the entries, as C has them.
+pub mod Answers
+pub mod Promise
