@@ -8,8 +8,8 @@ use second::rows::{accepted, any_accepted};
 use second::table::{LARGEST_COST, LARGEST_INSTANT, LARGEST_TICK};
 use second::{check, plans, read, texts, write, Plan, Table};
 
-/// Runs of plans with large costs, in a hundred: none while the library goes tick by tick.
-pub const LONG_RUNS: u32 = 0;
+/// Runs of plans with large costs, in a hundred.
+pub const LONG_RUNS: u32 = 5;
 
 /// Draws a question of this kind, by its place in [`crate::asked::KINDS`].
 pub fn asked(random: &mut Random, kind: usize) -> Asked {
