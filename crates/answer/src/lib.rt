@@ -15,7 +15,7 @@ ghost use Rattle.rules.specs.Refusals.{check, planInBounds};
 ghost use Rattle.rules.specs.Run.{endState};
 ghost use Rattle.rules.specs.Output as rules;
 ghost use Rattle.rules.specs.Output.{report, printed};
-ghost use Rattle.rows.specs.Lists.{table};
+ghost use Rattle.rules.specs.Lists.{table};
 ghost use Rattle.text.specs.Put.{Over};
 ghost use Rattle.dispatch.specs.Lists.{plan};
 ghost use Rattle.answer.specs.Promise.{Prints};

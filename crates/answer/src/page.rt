@@ -1,5 +1,4 @@
 // The lines of an answer, written to a page. Each function answers the place after what it has written.
-ghost use mathlib.Core.Path.{_≡_};
 ghost use mathlib.Core.List.{[], _∷_, _++_};
 ghost use Prim.Native.Nat.{_+_, _*_, _/_, _<_, _≤_};
 ghost use lib.IntN.{subℕ};

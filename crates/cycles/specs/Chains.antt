@@ -16,7 +16,7 @@ use Rattle.rules.specs.Rows.{any, lowest}
 use Rattle.rules.specs.Table.{Table, jobCount, arcCount, before, after, precedes, sectionCount}
 use Rattle.rules.specs.Refusals.{Fault, fault, firstOf, atRow, clashes, reachesBy, reaches, onCycle}
 use Rattle.laws.specs.Rows.{lowest-ext}
-use Rattle.rows.specs.Lists.{table}
+use Rattle.rules.specs.Lists.{table}
 use Rattle.rows.specs.Judged.{clashesFault}
 use Rattle.rows.specs.Stages.{at-found, at-none, front-rows, front-later}
 use Rattle.cycles.specs.Promise.{cycleFound, cyclesFault}

@@ -6,7 +6,7 @@ ghost use mathlib.Core.List.{[]};
 ghost use Prim.Native.Nat.{_<_, _≤_};
 ghost use lib.ListN.{length};
 ghost use Rattle.rules.specs.Table.{jobCount};
-ghost use Rattle.rows.specs.Lists.{table};
+ghost use Rattle.rules.specs.Lists.{table};
 ghost use Rattle.rows.specs.Judged.{faultIn};
 ghost use Rattle.cycles.specs.Words.{has, insert, joined};
 ghost use Rattle.cycles.specs.Chains.{ArcsBelow, Direct, Joins, Reached};

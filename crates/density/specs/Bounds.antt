@@ -7,30 +7,30 @@ use native.Mathlib.Omega.{arith}
 use Rattle.rules.specs.Table.{owner}
 use Rattle.rules.specs.Refusals.{planInBounds}
 use Rattle.laws.specs.Refusals.{bounds-rows, bounds-times}
-use Rattle.plan.specs.Bounds.{planWith}
+use Rattle.rules.specs.Lists.{plan}
 use Rattle.density.specs.Sums.{JobsIn, SectionsIn}
 
-module _ (jobs arcs sections times : List ℕ) (e : planInBounds (planWith jobs arcs sections times) ≡ true) where
+module _ (jobs arcs sections times : List ℕ) (e : planInBounds (plan jobs arcs sections times) ≡ true) where
   pub jobs-in : JobsIn jobs times
   jobs-in =
-      let (rows, pairs) = bounds-rows (planWith jobs arcs sections times) e in
+      let (rows, pairs) = bounds-rows (plan jobs arcs sections times) e in
       record {
         few = rows .few-jobs;
         spans = record {
           pairs = omega arith;
-          some = λ j l. omega (arith, bounds-times (planWith jobs arcs sections times) e j l .window, rows .job-in j l .costs);
+          some = λ j l. omega (arith, bounds-times (plan jobs arcs sections times) e j l .window, rows .job-in j l .costs);
         };
         costs = λ j l. rows .job-in j l .cost-in;
       }
 
   pub sections-in : SectionsIn sections times
   sections-in s l =
-      let (rows, pairs) = bounds-rows (planWith jobs arcs sections times) e in
+      let (rows, pairs) = bounds-rows (plan jobs arcs sections times) e in
       let h = rows .section-in s l in
       record {
         listed = omega arith;
         owner-in = omega (arith, h .owner-in);
         resource-in = h .resource-in;
         begins = omega (arith, h .begins);
-        short = omega (arith, h .fits, rows .job-in (owner (planWith jobs arcs sections times .table) s) (h .owner-in) .cost-in);
+        short = omega (arith, h .fits, rows .job-in (owner (plan jobs arcs sections times .table) s) (h .owner-in) .cost-in);
       }

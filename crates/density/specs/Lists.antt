@@ -2,16 +2,16 @@
 use mathlib.Core.List.{List, []}
 use Prim.Native.Nat.{ℕ}
 use Rattle.rules.specs.Table.{Plan}
-use Rattle.plan.specs.Bounds.{planWith}
+use Rattle.rules.specs.Lists.{plan}
 
 abbrev pub ofTimes : List ℕ → Plan
-ofTimes times = planWith [] [] [] times
+ofTimes times = plan [] [] [] times
 
 abbrev pub ofJobs : List ℕ → List ℕ → Plan
-ofJobs jobs times = planWith jobs [] [] times
+ofJobs jobs times = plan jobs [] [] times
 
 abbrev pub ofSections : List ℕ → List ℕ → Plan
-ofSections sections times = planWith [] [] sections times
+ofSections sections times = plan [] [] sections times
 
 abbrev pub ofBoth : List ℕ → List ℕ → List ℕ → Plan
-ofBoth jobs sections times = planWith jobs [] sections times
+ofBoth jobs sections times = plan jobs [] sections times

@@ -9,7 +9,7 @@ use native.Mathlib.Omega.{arith}
 use lib.ListN.{length}
 use Rattle.rules.specs.Table.{Plan, span}
 use Rattle.rules.specs.Density.{gcd, lcm, multipleTo, mostMultiple}
-use Rattle.plan.specs.Bounds.{planWith}
+use Rattle.rules.specs.Lists.{plan}
 use Rattle.density.specs.Lists.{ofTimes}
 use Rattle.density.specs.Divides.{Divides, Lcm, gcd-some, lcm-is, lcm-some, divides-le, divides-trans}
 use Rattle.density.specs.declared.multiple.Common.{Common}
@@ -106,7 +106,7 @@ module _ (p : Plan) where
       (x, rw (← x) l)
 
 -- it reads only the times
-pub same-multiple : (jobs arcs sections times : List ℕ) (n : ℕ) → multipleTo (ofTimes times) n ≡ multipleTo (planWith jobs arcs sections times) n
+pub same-multiple : (jobs arcs sections times : List ℕ) (n : ℕ) → multipleTo (ofTimes times) n ≡ multipleTo (plan jobs arcs sections times) n
 unfolding multipleTo
 same-multiple jobs arcs sections times zero = refl
 same-multiple jobs arcs sections times (suc n) = rw (same-multiple jobs arcs sections times n)

@@ -13,7 +13,7 @@ use Rattle.rules.specs.Table.{Plan, jobCount}
 use Rattle.rules.specs.Refusals.{faultOf, Outcome, refused, gives, andThen, planInBounds}
 use Rattle.rules.specs.Density.{sortsBefore, placeOfJob, placeOrYes, fails, failingPlace, multipleTo, multiple, mostMultiple, densityFault, density}
 use Rattle.rules.specs.declared.Refusal.the-variants.{Bounds, Multiple}
-use Rattle.plan.specs.Bounds.{planWith}
+use Rattle.rules.specs.Lists.{plan}
 use Rattle.density.specs.Lists.{ofTimes, ofBoth}
 use Rattle.density.specs.Multiple.{Tells, told-within, told-over, same-multiple}
 use Rattle.density.specs.Sums.{same-fails}
@@ -58,37 +58,37 @@ module _ (p : Plan) (m : ℕ) (r : Found) (e : asOption r ≡ first (sortsBefore
 
 -- ---- the entry, each way out
 
-module _ (jobs arcs sections times : List ℕ) {b : Bool} (e : b ≡ planInBounds (planWith jobs arcs sections times)) where
-  pub answers-bounds : b ≡ false → Answers (planWith jobs arcs sections times) (Refused Bounds)
+module _ (jobs arcs sections times : List ℕ) {b : Bool} (e : b ≡ planInBounds (plan jobs arcs sections times)) where
+  pub answers-bounds : b ≡ false → Answers (plan jobs arcs sections times) (Refused Bounds)
   unfolding density densityFault
   answers-bounds f = record { is = rw (sym e ∙ f) }
 
   -- the answer reads no arcs
-  same-place : (m : ℕ) → failingPlace (ofBoth jobs sections times) m ≡ failingPlace (planWith jobs arcs sections times) m
+  same-place : (m : ℕ) → failingPlace (ofBoth jobs sections times) m ≡ failingPlace (plan jobs arcs sections times) m
   unfolding failingPlace placeOfJob
   same-place m =
       ap
       (λ f. placeOrYes (ofBoth jobs sections times) (first (sortsBefore (ofBoth jobs sections times)) f (length jobs / 3)))
       (fun-ext (same-fails jobs arcs sections times m))
-      ∙ go (first (sortsBefore (ofBoth jobs sections times)) (fails (planWith jobs arcs sections times) m) (length jobs / 3))
+      ∙ go (first (sortsBefore (ofBoth jobs sections times)) (fails (plan jobs arcs sections times) m) (length jobs / 3))
     where
-      go : (o : Option ℕ) → placeOrYes (ofBoth jobs sections times) o ≡ placeOrYes (planWith jobs arcs sections times) o
+      go : (o : Option ℕ) → placeOrYes (ofBoth jobs sections times) o ≡ placeOrYes (plan jobs arcs sections times) o
       go none = refl
       go (some j) = refl
 
   module _ (f : b ≡ true) (r : Common) (t : Tells (multipleTo (ofTimes times) (length jobs / 3)) r) where
-    pub answers-multiple : r ≡ Over → Answers (planWith jobs arcs sections times) (Refused Multiple)
+    pub answers-multiple : r ≡ Over → Answers (plan jobs arcs sections times) (Refused Multiple)
     unfolding density densityFault multiple
     answers-multiple o =
-        let h : mostMultiple < multiple (planWith jobs arcs sections times) =
+        let h : mostMultiple < multiple (plan jobs arcs sections times) =
         rw (← same-multiple jobs arcs sections times (length jobs / 3)) (told-over _ r t o) in
         record { is = rw (sym e ∙ f, lt-leb _ _ h) }
 
     pub answers-place : (m : ℕ) (v : Verdict) → r ≡ Of m
-        → said v ≡ gives (answerAt (failingPlace (ofBoth jobs sections times) m)) → Answers (planWith jobs arcs sections times) v
+        → said v ≡ gives (answerAt (failingPlace (ofBoth jobs sections times) m)) → Answers (plan jobs arcs sections times) v
     unfolding density densityFault multiple
     answers-place m v o q =
         let h = told-within _ m r t o in
-        let x : m ≡ multiple (planWith jobs arcs sections times) = h .0 ∙ same-multiple jobs arcs sections times (length jobs / 3) in
-        let l : multiple (planWith jobs arcs sections times) ≤ mostMultiple = rw (← x, h .0) (h .1) in
+        let x : m ≡ multiple (plan jobs arcs sections times) = h .0 ∙ same-multiple jobs arcs sections times (length jobs / 3) in
+        let l : multiple (plan jobs arcs sections times) ≤ mostMultiple = rw (← x, h .0) (h .1) in
         record { is = rw (sym e ∙ f, le-leb _ _ l, ← x, ← same-place m) q }

@@ -21,7 +21,7 @@ use Rattle.rules.specs.Density.{sortsBefore, ceilingWithin, blocking, fails, mo
 use Rattle.laws.specs.Tests.{Says, so, not-so, lt-says, le-says, eq-says, says-and, yes-says, no-says, yes-of, no-of}
 use Rattle.laws.specs.Rows.{any-says, any-more, largest-ext}
 use Rattle.laws.specs.Clears.{CeilingOf, no-section, smallest-span, ceiling-of}
-use Rattle.plan.specs.Bounds.{planWith}
+use Rattle.rules.specs.Lists.{plan}
 use Rattle.density.specs.Lists.{ofTimes, ofJobs, ofSections, ofBoth}
 use Rattle.density.specs.Multiple.{SpansIn}
 
@@ -198,21 +198,21 @@ blocking-end p d i n b h k e = let q : i ≡ n = omega arith in rw (← q) e
 
 -- ceilings and b read only sections and times
 module _ (jobs arcs sections times : List ℕ) where
-  same-ceiling : (q : ℕ) → ceiling (ofSections sections times) q ≡ ceiling (planWith jobs arcs sections times) q
+  same-ceiling : (q : ℕ) → ceiling (ofSections sections times) q ≡ ceiling (plan jobs arcs sections times) q
   unfolding ceiling tightest
   same-ceiling q = go (tightest (ofSections sections times) q)
     where
-      go : (o : Option ℕ) → spanOf (ofSections sections times) o ≡ spanOf (planWith jobs arcs sections times) o
+      go : (o : Option ℕ) → spanOf (ofSections sections times) o ≡ spanOf (plan jobs arcs sections times) o
       go none = refl
       go (some s) = refl
 
   same-blocking : (j : ℕ)
-      → blockingAt (ofSections sections times) (span (ofTimes times) j) (length sections / 4) ≡ blocking (planWith jobs arcs sections times) j
+      → blockingAt (ofSections sections times) (span (ofTimes times) j) (length sections / 4) ≡ blocking (plan jobs arcs sections times) j
   unfolding blocking
   same-blocking j =
       largest-ext
       (counts (ofSections sections times) (span (ofTimes times) j))
-      (counts (planWith jobs arcs sections times) (span (ofTimes times) j))
+      (counts (plan jobs arcs sections times) (span (ofTimes times) j))
       (ticksOf (ofSections sections times .table))
       (ticksOf (ofSections sections times .table))
       0
@@ -222,11 +222,11 @@ module _ (jobs arcs sections times : List ℕ) where
 
   pub fails-are : (m j d b total share x : ℕ) → d ≡ span (ofTimes times) j → b ≡ blockingAt (ofSections sections times) d (length sections / 4)
       → total ≡ sum (adds (ofJobs jobs times) m j) (length jobs / 3) → share ≡ m / d * b → x ≡ m
-      → ltb x (total + share) ≡ fails (planWith jobs arcs sections times) m j
+      → ltb x (total + share) ≡ fails (plan jobs arcs sections times) m j
   unfolding fails
   fails-are m j d b total share x e f g h i = rw (i, g, h, f, e, same-blocking j)
 
-  pub same-fails : (m j : ℕ) → fails (ofBoth jobs sections times) m j ≡ fails (planWith jobs arcs sections times) m j
+  pub same-fails : (m j : ℕ) → fails (ofBoth jobs sections times) m j ≡ fails (plan jobs arcs sections times) m j
   same-fails m j =
       let d = span (ofTimes times) j in
       let b = blockingAt (ofSections sections times) d (length sections / 4) in

@@ -11,7 +11,7 @@ ghost use mathlib.Core.Path.{_≡_};
 ghost use Prim.Native.Nat.{_≤_};
 ghost use Rattle.rules.specs.Refusals.{gives};
 ghost use Rattle.rules.specs.Density.{failingPlace, mostMultiple};
-ghost use Rattle.plan.specs.Bounds.{planWith};
+ghost use Rattle.rules.specs.Lists.{plan};
 ghost use Rattle.density.specs.Lists.{ofBoth};
 ghost use Rattle.density.specs.Sums.{JobsIn, SectionsIn};
 ghost use Rattle.density.specs.Promise.{answerAt, said, Answers};
@@ -37,7 +37,7 @@ fn judge(jobs: &[u32], sections: &[u32], times: &[u32], m: u32) -> Verdict
 
 // The density test: 12 for a plan out of bounds, then 14 for a common multiple over 1,000,000,000; else yes or no.
 pub fn density(jobs: &[u32], arcs: &[u32], sections: &[u32], times: &[u32]) -> Verdict
-    ensures { λ r. ⌜ Answers (planWith (now (jobs .entry)) (now (arcs .entry)) (now (sections .entry)) (now (times .entry))) r ⌝ }
+    ensures { λ r. ⌜ Answers (plan (now (jobs .entry)) (now (arcs .entry)) (now (sections .entry)) (now (times .entry))) r ⌝ }
 {
     if !plan::plan_in_bounds(jobs, arcs, sections, times) {
         return Verdict::Refused(Refusal::Bounds);

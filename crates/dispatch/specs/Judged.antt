@@ -1,35 +1,21 @@
 -- Laws for the judgement before a step, each way out, and what is known where a step can be taken.
-use mathlib.Core.Path.{_≡_, refl, sym, _∙_, ap}
+use mathlib.Core.Path.{_≡_, refl}
 use mathlib.Core.Logic.{⊎-elim}
 use mathlib.Core.Bool.{Bool, true, false, not, _&&_}
 use mathlib.Core.List.{List, [], _∷_, _++_}
-use mathlib.Core.Option.{Option, none, some}
-use Prim.Native.Nat.{ℕ, _+_, _*_, _/_, _%_, _≤_, _<_}
+use mathlib.Core.Option.{none, some}
+use Prim.Native.Nat.{ℕ, _+_, _*_, _/_, _≤_, _<_}
 use native.Mathlib.Omega.{arith}
 use lib.ListN.{length, getD}
-use lib.Dec.{ltb, leb, eqb}
-use borrow.Author.Tests.{lt-ltb, le-ltb, not-true}
+use lib.Dec.{ltb}
+use borrow.Author.Tests.{lt-ltb, le-ltb}
 use Rattle.rules.specs.Rows.{all}
 use Rattle.rules.specs.Table.{Plan, State, jobCount, cost, lastTick, latest, modifiedRelease, executed, mark, finish}
-use Rattle.rules.specs.Refusals.{
-  Fault,
-  fault,
-  firstOf,
-  demand,
-  accepted,
-  countFaults,
-  rowFaults,
-  timesRight,
-  planInBounds,
-  jobStateRight,
-  stateInBounds,
-  allFinished,
-  stepFault,
-}
+use Rattle.rules.specs.Refusals.{fault, firstOf, demand, accepted, countFaults, rowFaults, timesRight, planInBounds, jobStateRight, stateInBounds, allFinished, stepFault}
 use Rattle.laws.specs.Tests.{Says, bool-says, eq-says, le-says, lt-says, says-map, says-and, yes-says, no-says, says-yes}
 use Rattle.laws.specs.Rows.{all-at, all-says}
 use Rattle.laws.specs.Refusals.{all-none, demand-none, bounds-rows}
-use Rattle.dispatch.specs.Lists.{plan, timed, state, at, ArcsFit, SectionsFit, Same, Fit, Bounded}
+use Rattle.dispatch.specs.Lists.{plan, timed, state, Fit, Bounded}
 
 -- A plan and a state of it are within their bounds.
 unfoldable pub inBounds : Plan → State → Bool

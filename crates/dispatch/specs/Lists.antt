@@ -8,17 +8,11 @@ use native.Mathlib.Omega.{arith}
 use lib.ListN.{length, getD}
 use lib.Dec.{ltb, eqb}
 use Rattle.rules.specs.Rows.{sum}
-use Rattle.rules.specs.Table.{Table, Plan, State, resources, owner, resource, span}
+use Rattle.rules.specs.Table.{Plan, State, resources, owner, resource, span}
+pub use Rattle.rules.specs.Lists.{plan, state}
 use Rattle.rules.specs.Tick.{pending, started, heldOn, chosen, tick}
 use Rattle.dispatch.specs.declared.choice.Found.{Found}
 use Rattle.dispatch.specs.declared.choice.Found.the-variants.{At, Nothing}
-
-abbrev pub plan : List ℕ → List ℕ → List ℕ → List ℕ → Plan
-plan jobs arcs sections times =
-    record { table = record { jobs = jobs; arcs = arcs; sections = sections }; times = times }
-
-abbrev pub state : ℕ → List ℕ → List ℕ → List ℕ → State
-state tick executed marks finish = record { tick = tick; executed = executed; marks = marks; finish = finish }
 
 -- what the order and the times of jobs need of a plan
 abbrev pub timed : List ℕ → List ℕ → Plan

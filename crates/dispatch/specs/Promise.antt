@@ -3,31 +3,17 @@ use mathlib.Core.Path.{_≡_, refl, sym, _∙_, ap}
 use mathlib.Core.Bool.{Bool, true, false, cond, _&&_}
 use mathlib.Core.List.{List, [], _∷_, _++_}
 use mathlib.Core.Option.{Option, none, some}
-use Prim.Native.Nat.{ℕ, _+_, _*_, _/_, _≤_, _<_}
+use Prim.Native.Nat.{ℕ, _+_, _≤_, _<_}
 use native.Mathlib.Omega.{arith}
 use lib.ListN.{length, take, drop, replicate, length-replicate}
 use lib.Seq.{take-at, drop-at}
 use Rattle.rules.specs.Table.{Plan, State, jobCount, cost, deadline, executed, finish}
 use Rattle.laws.specs.Tests.{le-says, yes-says}
-use Rattle.laws.specs.Refusals.{AllNone, all-none, demand-none}
+use Rattle.laws.specs.Refusals.{all-none, demand-none}
 use borrow.Author.Tests.{le-leb, lt-leb, le-ltb, lt-ltb, eq-eqb, ne-eqb}
 use lib.Dec.{ltb}
 use lib.IntN.{ℤ, subℕ}
-use Rattle.rules.specs.Refusals.{
-  Fault,
-  fault,
-  faultOf,
-  Outcome,
-  refused,
-  gives,
-  firstOf,
-  unless,
-  demand,
-  room,
-  planInBounds,
-  finished,
-  stepFault,
-}
+use Rattle.rules.specs.Refusals.{Fault, fault, faultOf, Outcome, refused, gives, firstOf, unless, demand, room, planInBounds, finished, stepFault}
 use Rattle.rules.specs.Run.{start, answered, allEndBy, endState, lateness}
 use Rattle.rules.specs.Tick.{chosen, tick}
 use Rattle.rules.specs.declared.Refusal.{Refusal}

@@ -5,7 +5,7 @@ use rules::Span;
 ghost use mathlib.Core.Path.{_≡_};
 ghost use mathlib.Core.List.{[]};
 ghost use mathlib.Core.Bool.{not, _&&_, _||_};
-ghost use Prim.Native.Nat.{ℕ, _+_, _*_, _/_, _-_, _<_, _≤_};
+ghost use Prim.Native.Nat.{_+_, _*_, _/_, _-_, _<_};
 ghost use lib.Dec.{ltb, leb, eqb};
 ghost use lib.ListN.{length, getD};
 ghost use Rattle.rules.specs.Rows.{all, first, better};

@@ -2,17 +2,16 @@
 use crate::choice;
 use crate::choice::Found;
 ghost use mathlib.Core.Path.{_≡_};
-ghost use mathlib.Core.Bool.{_&&_, _||_};
+ghost use mathlib.Core.Bool.{_||_};
 ghost use mathlib.Core.List.{[]};
-ghost use Prim.Native.Nat.{ℕ, _+_, _*_, _/_, _%_, _-_, _<_, _≤_};
-ghost use lib.Dec.{ltb, leb, eqb};
+ghost use Prim.Native.Nat.{_+_, _*_, _/_, _%_, _-_, _<_, _≤_};
 ghost use lib.ListN.{length, getD};
-ghost use Rattle.rules.specs.Rows.{all, any};
+ghost use Rattle.rules.specs.Rows.{all};
 ghost use Rattle.rules.specs.Refusals.{allFinished, jobStateRight, stateInBounds};
 ghost use Rattle.rules.specs.Tick.{markFor};
 ghost use Rattle.laws.specs.Events.{advanceBy};
 ghost use Rattle.dispatch.specs.Marks.{bringsStale, staleBefore};
-ghost use Rattle.dispatch.specs.Lists.{plan, timed, state, at, asOption, Within, Sized, SectionsFit, ArcsFit, Same, Fit, Ticked};
+ghost use Rattle.dispatch.specs.Lists.{plan, timed, state, at, asOption, Within, ArcsFit, Same, Fit, Ticked};
 
 // Whether arc a leads from a stale job to this one.
 fn brings_stale(arcs: &[u32], marks: &[u32], job: usize, a: usize) -> bool

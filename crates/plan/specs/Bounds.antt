@@ -1,7 +1,6 @@
 -- A plan handed in: the code's lists as a plan, and the laws that its judgement cites.
 use mathlib.Core.Path.{_≡_, refl}
 use mathlib.Core.Bool.{Bool, true, false, _&&_}
-use mathlib.Core.List.{List}
 use mathlib.Core.Option.{Option, none, some}
 use Prim.Native.Nat.{ℕ, _+_, _*_, _-_, _≤_}
 use native.Mathlib.Omega.{arith}
@@ -13,11 +12,8 @@ use Rattle.rules.specs.Table.{Plan, latest, jobCount, cost, modifiedRelease, mo
 use Rattle.rules.specs.Refusals.{Fault, accepted, timesRight, planInBounds}
 use Rattle.laws.specs.Tests.{le-says, says-agree, no-of}
 use Rattle.laws.specs.Refusals.{TimesIn, times-says}
-use Rattle.rows.specs.Lists.{table}
+use Rattle.rules.specs.Lists.{table}
 use Rattle.rows.specs.Judged.{valuesFault}
-
-abbrev pub planWith : List ℕ → List ℕ → List ℕ → List ℕ → Plan
-planWith jobs arcs sections times = record { table = table jobs arcs sections; times = times }
 
 module _ (p : Plan) (j : ℕ) where
   pub times-no : (TimesIn p j → ⊥) → timesRight p j ≡ false

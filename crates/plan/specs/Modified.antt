@@ -16,7 +16,7 @@ use Rattle.laws.specs.Tests.{says-agree, lt-says, yes-says, no-says, says-yes}
 use Rattle.laws.specs.Rows.{largest-base, largest-at, largest-most, largest-ext, lowest-ext}
 use Rattle.laws.specs.Reach.{precedes-says}
 use Rattle.laws.specs.Refusals.{RowsRight, rows-none}
-use Rattle.rows.specs.Lists.{table}
+use Rattle.rules.specs.Lists.{table}
 use Rattle.plan.specs.declared.modified.Way.the-variants.{Forward, Back}
 use Rattle.plan.specs.Rounds.{JobsIn, ArcsIn, Holds, Fit, sourceOf, targetOf, roundTo, short, windowFound, pairsTo}
 

@@ -13,14 +13,13 @@ ghost use lib.ListN.{length};
 ghost use Rattle.rules.specs.Rows.{all};
 ghost use Rattle.rules.specs.Table.{jobCount};
 ghost use Rattle.rules.specs.Refusals.{planInBounds, timesRight};
-ghost use Rattle.rows.specs.Lists.{table};
-ghost use Rattle.plan.specs.Bounds.{planWith};
+ghost use Rattle.rules.specs.Lists.{table, plan};
 ghost use Rattle.plan.specs.Promise.{Plans};
 
 // Whether a job's modified times lie in 0 to 1,000,000, window at least cost.
 fn times_right(jobs: &[u32], times: &[u32], j: usize) -> bool
     requires { ⌜ (3 * j + 2 < length (now jobs)) × (2 * j + 1 < length (now times)) ⌝ }
-    ensures { λ r. ⌜ r ≡ timesRight (planWith (now (jobs .entry)) [] [] (now (times .entry))) j ⌝ }
+    ensures { λ r. ⌜ r ≡ timesRight (plan (now (jobs .entry)) [] [] (now (times .entry))) j ⌝ }
 {
     let release = Instant(times[2 * j]);
     if release.0 > LATEST {
@@ -40,7 +39,7 @@ fn times_right(jobs: &[u32], times: &[u32], j: usize) -> bool
 // Whether those of every job do.
 fn all_times_right(jobs: &[u32], times: &[u32]) -> bool
     requires { ⌜ 2 * jobCount (table (now jobs) [] []) ≤ length (now times) ⌝ }
-    ensures { λ r. ⌜ r ≡ all (timesRight (planWith (now (jobs .entry)) [] [] (now (times .entry)))) (jobCount (table (now (jobs .entry)) [] [])) ⌝ }
+    ensures { λ r. ⌜ r ≡ all (timesRight (plan (now (jobs .entry)) [] [] (now (times .entry)))) (jobCount (table (now (jobs .entry)) [] [])) ⌝ }
 {
     let n = jobs.len() / 3;
     let mut j = 0;
@@ -56,7 +55,7 @@ fn all_times_right(jobs: &[u32], times: &[u32]) -> bool
 // Whether a plan that is handed in keeps within its bounds: counts and values meet rules 2 to 7, and the modified times, a
 // pair for each job, are right.
 pub fn plan_in_bounds(jobs: &[u32], arcs: &[u32], sections: &[u32], times: &[u32]) -> bool
-    ensures { λ r. ⌜ r ≡ planInBounds (planWith (now (jobs .entry)) (now (arcs .entry)) (now (sections .entry)) (now (times .entry))) ⌝ }
+    ensures { λ r. ⌜ r ≡ planInBounds (plan (now (jobs .entry)) (now (arcs .entry)) (now (sections .entry)) (now (times .entry))) ⌝ }
 {
     let values = rows::judge_values(jobs, arcs, sections);
     if let Judged::Wrong(_) = values {

@@ -5,7 +5,7 @@ ghost use mathlib.Core.List.{[]};
 ghost use Prim.Native.Nat.{_+_, _*_, _<_, _≤_};
 ghost use lib.ListN.{length};
 ghost use Rattle.rules.specs.Refusals.{fault, faultOf, firstOf, countFaults, jobOut, arcOut, sectionOut, overlap, within, clash, clashes};
-ghost use Rattle.rows.specs.Lists.{table};
+ghost use Rattle.rules.specs.Lists.{table};
 ghost use Rattle.rows.specs.Judged.{faultIn, valuesFault, clashesFault};
 ghost use Rattle.rows.specs.Stages.{inRows, numberUnder, rowsUnder, broken, stage};
 

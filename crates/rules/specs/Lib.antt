@@ -1,6 +1,7 @@
 -- Document 01 as definitions: a module for each of its sections, in its order.
 pub mod Rows
 pub mod Table
+pub mod Lists
 pub mod Times
 pub mod Refusals
 pub mod Text

@@ -1,7 +1,7 @@
 // The types that every crate shares. What 01 says stands as definitions in specs/.
 ghost use mathlib.Core.Path.{_≡_};
 ghost use Prim.Native.Nat.{_-_};
-ghost use lib.Dec.{ltb, leb, eqb};
+ghost use lib.Dec.{ltb, eqb};
 ghost use Rattle.rules.specs.Refusals.{numberOf, placeOf};
 
 // A point in time: a release, a deadline, a tick. Compared only with instants.

@@ -1,6 +1,6 @@
 // The leaves of the reader. Each answers how many bytes it took before it stopped.
 ghost use mathlib.Core.Path.{_≡_};
-ghost use Prim.Native.Nat.{_+_, _<_, _≤_, _^_};
+ghost use Prim.Native.Nat.{_+_, _<_, _≤_};
 ghost use lib.ListN.{length, drop};
 ghost use Rattle.rules.specs.Text.{key, isDigit, number, lineValue};
 ghost use Rattle.text.specs.Leaves.{Matched, Took, LineEnds};

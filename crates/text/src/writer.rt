@@ -1,6 +1,6 @@
 // The two passes of the writer: how long a text is, and the text.
 ghost use mathlib.Core.Path.{_≡_};
-ghost use Prim.Native.Nat.{_+_, _/_, _*_, _<_, _≤_};
+ghost use Prim.Native.Nat.{_+_, _/_, _<_, _≤_};
 ghost use lib.ListN.{length};
 ghost use Rattle.rules.specs.Text.{key, digits, line, valueLines, partText};
 ghost use Rattle.laws.specs.Text.{Counted};

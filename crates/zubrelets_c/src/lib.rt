@@ -8,7 +8,7 @@ use answers::ZubLength;
 use answers::ZubStepped;
 use answers::ZubTick;
 use answers::ZubVerdict;
-ghost use Rattle.rows.specs.Lists.{table};
+ghost use Rattle.rules.specs.Lists.{table};
 ghost use Rattle.text.specs.Promises.{Reads, Writes};
 ghost use Rattle.plan.specs.Promise.{Plans};
 ghost use Rattle.density.specs.Promise as density;

@@ -8,7 +8,7 @@ use mathlib.Core.Bool.{true}
 use Rattle.rules.specs.Table.{Table}
 use Rattle.rules.specs.Refusals.{check, gives, planOf, planInBounds}
 use Rattle.laws.specs.Refusals.{bounds-rows}
-use Rattle.rows.specs.Lists.{table}
+use Rattle.rules.specs.Lists.{table}
 use Rattle.answer.specs.Stages.{not-planned, was-planned}
 use borrow.Author.Needs.{needs}
 use Rattle.answer.proofs.print_table.Statement.{statement}

@@ -7,7 +7,7 @@ use native.Mathlib.Omega.{arith}
 use borrow.Author.Count.{below-none, below-more}
 use borrow.Author.Needs.{needs}
 use Rattle.rules.specs.Refusals.{onCycle}
-use Rattle.rows.specs.Lists.{table}
+use Rattle.rules.specs.Lists.{table}
 use Rattle.cycles.proofs.lowest_on_cycle.Statement.{statement}
 use Rattle.cycles.proofs.lowest_on_cycle.Tie as tie
 use Rattle.cycles.specs.Chains.{cycle-is, cycle-at, cycle-none}

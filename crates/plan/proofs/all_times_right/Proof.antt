@@ -9,12 +9,12 @@ use borrow.Author.Tests.{not-true, not-false}
 use Rattle.rules.specs.Refusals.{timesRight}
 use Rattle.rules.specs.Rows.{all}
 use Rattle.laws.specs.Rows.{all-not, all-next, all-end}
-use Rattle.plan.specs.Bounds.{planWith}
+use Rattle.rules.specs.Lists.{plan}
 use Rattle.plan.proofs.all_times_right.Statement.{statement}
 use Rattle.plan.proofs.all_times_right.Tie as tie
 
 abbrev Inv-loop : tie.InvT-loop
-Inv-loop jobs times n j₀ j = (j ≤ n) × (all (timesRight (planWith jobs [] [] times)) j ≡ true)
+Inv-loop jobs times n j₀ j = (j ≤ n) × (all (timesRight (plan jobs [] [] times)) j ≡ true)
 
 abbrev μ-loop : tie.MeasureT-loop
 μ-loop jobs times n j₀ j = n - j

@@ -6,7 +6,7 @@ use borrow.Author.Needs.{needs}
 use Rattle.rules.specs.Refusals.{atRow, tooShort, checkFault}
 use Rattle.rules.specs.Rows.{lowest}
 use Rattle.rules.specs.Table.{Table, jobCount}
-use Rattle.rows.specs.Lists.{table}
+use Rattle.rules.specs.Lists.{table}
 use Rattle.rows.specs.Stages.{told}
 use Rattle.cycles.specs.Promise.{cyclesFault}
 use Rattle.plan.specs.Modified.{jobs-in, arcs-in, window-is, times-are, times-fit}

@@ -8,7 +8,7 @@ use borrow.Author.Needs.{needs}
 use Rattle.rules.specs.Refusals.{clash}
 use Rattle.rules.specs.Rows.{any}
 use Rattle.laws.specs.Rows.{any-next}
-use Rattle.rows.specs.Lists.{table}
+use Rattle.rules.specs.Lists.{table}
 use Rattle.rows.specs.Stages.{clashes-yes, clashes-no}
 use Rattle.rows.proofs.clashes.Statement.{statement}
 use Rattle.rows.proofs.clashes.Tie as tie

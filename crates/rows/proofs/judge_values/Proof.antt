@@ -5,7 +5,7 @@ use borrow.Author.Needs.{needs}
 use Rattle.rules.specs.Refusals.{firstOf, countFaults}
 use Rattle.rules.specs.Table.{Table}
 use Rattle.rows.specs.Judged.{faultIn}
-use Rattle.rows.specs.Lists.{table}
+use Rattle.rules.specs.Lists.{table}
 use Rattle.rows.specs.Stages.{few-rows, told, last-of, values-are}
 use Rattle.rows.specs.declared.Rule.the-variants.{Job, Arc, Section}
 use Rattle.rows.proofs.judge_values.Statement.{statement}

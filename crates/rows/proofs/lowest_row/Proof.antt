@@ -6,7 +6,7 @@ use Prim.Native.Nat.{ℕ, _≤_, _<_, _-_}
 use native.Mathlib.Omega.{arith}
 use borrow.Author.Count.{below-none, below-more}
 use borrow.Author.Needs.{needs}
-use Rattle.rows.specs.Lists.{table}
+use Rattle.rules.specs.Lists.{table}
 use Rattle.rows.specs.Stages.{broken, at-found, at-none}
 use Rattle.rows.proofs.lowest_row.Statement.{statement}
 use Rattle.rows.proofs.lowest_row.Tie as tie
