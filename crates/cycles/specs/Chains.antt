@@ -32,6 +32,7 @@ pub record Upto (arcs : List ℕ) (m : ℕ) (words : List ℕ) : Type 0 where
   pub holds : (i j : ℕ) → i < 64
       → has (getD words i 0) j ≡ any (λ a. eqb (before (table [] arcs []) a) i && eqb (after (table [] arcs []) a) j) m
 
+-- each word holds the direct successors of its job
 abbrev pub Direct : List ℕ → List ℕ → Type 0
 Direct arcs words = Upto arcs (arcCount (table [] arcs [])) words
 

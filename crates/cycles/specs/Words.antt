@@ -17,10 +17,12 @@ unfoldable pub digit : ℕ → ℕ → ℕ
 digit w zero = w % 2
 digit w (suc i) = digit (w / 2) i
 
+-- the word w holds job i
 unfoldable pub has : ℕ → ℕ → Bool
 unfolding digit
 has w i = eqb (digit w i) 1
 
+-- the word w with job i in it
 unfoldable pub insert : ℕ → ℕ → ℕ
 insert w i = bitOr w (2 ^ i)
 

@@ -6,6 +6,7 @@ use native.Mathlib.Omega.{arith}
 use borrow.Author.Tests.{ne-eqb}
 use Rattle.rules.specs.Density.{gcdBy, gcd, lcm}
 
+-- n is d taken so many times
 pub record Divides (d n : ℕ) : Type 0 where
   pub times : ℕ
   pub is : n ≡ times * d
@@ -100,6 +101,7 @@ gcd-is a b = by-greatest (suc b) a b (omega arith)
 
 -- ---- the least common multiple
 
+-- l is a multiple of both, and divides every other one
 pub record Lcm (a b l : ℕ) : Type 0 where
   pub left : Divides a l
   pub right : Divides b l

@@ -12,6 +12,7 @@ use Rattle.density.specs.Sums.{same-order}
 use Rattle.density.specs.declared.failing.Found.{Found}
 use Rattle.density.specs.declared.failing.Found.the-variants.{Nothing, Job}
 
+-- the job that was found, if one was
 abbrev pub asOption : Found → Option ℕ
 asOption Nothing = none
 asOption (Job j) = some j

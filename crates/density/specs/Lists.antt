@@ -4,14 +4,18 @@ use Prim.Native.Nat.{ℕ}
 use Rattle.rules.specs.Table.{Plan}
 use Rattle.rules.specs.Lists.{plan}
 
+-- of the modified times alone
 abbrev pub ofTimes : List ℕ → Plan
 ofTimes times = plan [] [] [] times
 
+-- of jobs and times
 abbrev pub ofJobs : List ℕ → List ℕ → Plan
 ofJobs jobs times = plan jobs [] [] times
 
+-- of sections and times
 abbrev pub ofSections : List ℕ → List ℕ → Plan
 ofSections sections times = plan [] [] sections times
 
+-- of all but the arcs
 abbrev pub ofBoth : List ℕ → List ℕ → List ℕ → Plan
 ofBoth jobs sections times = plan jobs [] sections times

@@ -28,6 +28,7 @@ module _ (p : Plan) where
 
   -- ---- what it says
 
+  -- i comes before j: by the shorter span, then by the lower number
   pub data Sooner (i j : ℕ) : Type 0 where
     shorter : span p i < span p j → Sooner i j
     lower : span p i ≡ span p j → i < j → Sooner i j

@@ -27,11 +27,13 @@ use Rattle.density.specs.Multiple.{SpansIn}
 
 -- ---- what the sums are made from, within its bounds
 
+-- jobs are few, and spans and costs within their bounds
 pub record JobsIn (jobs times : List ℕ) : Type 0 where
   pub few : length jobs / 3 ≤ mostJobs
   pub spans : SpansIn times (length jobs / 3)
   pub costs : (j : ℕ) → j < length jobs / 3 → cost (ofJobs jobs times .table) j ≤ mostCost
 
+-- section s names a job and a resource, and is no longer than a cost
 pub record SectionAt (sections times : List ℕ) (s : ℕ) : Type 0 where
   pub listed : 4 * s + 3 < length sections
   pub owner-in : 2 * owner (ofSections sections times .table) s + 1 < length times
@@ -39,6 +41,7 @@ pub record SectionAt (sections times : List ℕ) (s : ℕ) : Type 0 where
   pub begins : from (ofSections sections times .table) s ≤ to (ofSections sections times .table) s
   pub short : to (ofSections sections times .table) s ≤ mostCost
 
+-- so it is of every section
 abbrev pub SectionsIn : List ℕ → List ℕ → Type 0
 SectionsIn sections times = (s : ℕ) → s < length sections / 4 → SectionAt sections times s
 
@@ -105,6 +108,7 @@ pub record Marked (p : Plan) (d n : ℕ) (marks : List Bool) : Type 0 where
   pub long : length marks ≡ resources
   pub at : (q : ℕ) → q < resources → getD marks q false ≡ any (reaches p d q) n
 
+-- the marks say of each resource whether its ceiling is at most d
 pub record Reached (p : Plan) (d : ℕ) (marks : List Bool) : Type 0 where
   pub long : length marks ≡ resources
   pub at : (q : ℕ) → q < resources → getD marks q false ≡ ceilingWithin (ceiling p q) d
@@ -165,9 +169,11 @@ module _ (p : Plan) (d s : ℕ) (marks : List Bool) (M : Marked p d s marks) whe
 abbrev pub counts : Plan → ℕ → ℕ → Bool
 counts p d s = ltb d (span p (owner (p .table) s)) && ceilingWithin (ceiling p (resource (p .table) s)) d
 
+-- the length of section s, where it counts against a job of span d
 abbrev pub ticksFor : Plan → ℕ → ℕ → ℕ
 ticksFor p d s = cond (counts p d s) (ticksOf (p .table) s) 0
 
+-- the longest of the first n sections that count
 abbrev pub blockingAt : Plan → ℕ → ℕ → ℕ
 blockingAt p d n = largest (counts p d) (ticksOf (p .table)) 0 n
 

@@ -38,6 +38,7 @@ nextStop sections job done cost n =
 abbrev pub stopOf : Plan → State → ℕ → ℕ
 stopOf p st j = nextStop (p .table .sections) j (executed st j) (cost (p .table) j) (sectionCount (p .table))
 
+-- its ticks up to its stop or to `end`, whichever is nearer
 abbrev pub mostFree : Plan → State → ℕ → ℕ → ℕ
 mostFree p st end j = min (stopOf p st j - executed st j) (end - st .tick)
 

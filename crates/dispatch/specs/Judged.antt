@@ -23,11 +23,13 @@ inBounds p st = planInBounds p && stateInBounds p st
 
 -- ---- what a state within its bounds is known to be
 
+-- what a state says of one job is within its bounds
 pub record JobStateIn (p : Plan) (st : State) (j : ℕ) : Type 0 where
   pub executed-in : executed st j ≤ cost (p .table) j
   pub mark-in : mark st j ≤ 2
   pub finish-in : finish st j ≤ lastTick
 
+-- the lists have a place for each job, and all is within its bounds
 pub record StateIn (p : Plan) (st : State) : Type 0 where
   pub executed-long : length (st .executed) ≡ jobCount (p .table)
   pub marks-long : length (st .marks) ≡ jobCount (p .table)

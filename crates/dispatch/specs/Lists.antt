@@ -22,6 +22,7 @@ timed jobs times = plan jobs [] [] times
 abbrev pub at : ℕ → List ℕ → State
 at tick executed = state tick executed [] []
 
+-- the job that was found, if one was
 abbrev pub asOption : Found → Option ℕ
 asOption (At j) = some j
 asOption Nothing = none

@@ -31,6 +31,7 @@ use Rattle.dispatch.specs.declared.Judgement.the-variants.{Ready, Wrong}
 
 -- ---- the judgement before a step
 
+-- what is wrong, if anything is
 abbrev pub asFault : Judgement → Option Fault
 asFault Ready = none
 asFault (Wrong f) = some (faultOf f)
@@ -48,6 +49,7 @@ abbrev pub resultFor : Plan → State → Bool → Option Fault → Result
 resultFor p st silent none = record { refusal = none; ran = chosen p st; after = tick p st silent }
 resultFor p st silent (some f) = record { refusal = some f; ran = none; after = st }
 
+-- What a step of this plan comes to from this state, with this report.
 unfoldable pub stepResult : Plan → State → Bool → Result
 stepResult p st silent = resultFor p st silent (stepFault p st)
 
@@ -85,6 +87,7 @@ pub record Lists : Type 0 where
   pub marks : List ℕ
   pub finish : List ℕ
 
+-- the three of them by name
 abbrev pub lists : List ℕ → List ℕ → List ℕ → Lists
 lists e m f = record { executed = e; marks = m; finish = f }
 
@@ -92,6 +95,7 @@ lists e m f = record { executed = e; marks = m; finish = f }
 abbrev pub over : List ℕ → List ℕ → List ℕ
 over front old = front ++ drop (length front) old
 
+-- The lent lists with a state in their fronts.
 abbrev pub holding : State → Lists → Lists
 holding st l = lists (over (st .executed) (l .executed)) (over (st .marks) (l .marks)) (over (st .finish) (l .finish))
 
@@ -111,10 +115,12 @@ pub record Reach : Type 0 where
   pub tick : ℕ
   pub lent : Lists
 
+-- A refusal leaves the lent lists as they were; else the state stands in their fronts.
 abbrev pub reachFor : State → Lists → Option Fault → Reach
 reachFor st l none = record { refusal = none; tick = st .tick; lent = holding st l }
 reachFor st l (some f) = record { refusal = some f; tick = 0; lent = l }
 
+-- What a start into these lists is refused for.
 abbrev pub faultFor : Plan → Lists → Option Fault
 faultFor p l = startFault p (length (l .executed)) (length (l .marks)) (length (l .finish))
 

@@ -65,10 +65,11 @@ module _ (p : Plan) where
           (lt-says (span p (owner (p .table) k)) (span p (owner (p .table) x)))
           (least k (h .listed) (yes-of (eq-says (resource (p .table) k) q) (λ n. n (h .on)))))
 
-  -- d is below the span of every job with a section on q; or some such job has a span of at most d
+  -- d is below the span of every job with a section on q
   abbrev pub Below : ℕ → ℕ → Type 0
   Below d q = (s : ℕ) → SectionOn q s → d < span p (owner (p .table) s)
 
+  -- some job with a section on q has a span of at most d
   abbrev pub Reached : ℕ → ℕ → Type 0
   Reached d q = (s : ℕ) × SectionOn q s × (span p (owner (p .table) s) ≤ d)
 
@@ -87,6 +88,7 @@ module _ (p : Plan) where
   abbrev pub Clear : ℕ → ℕ → ℕ → Type 0
   Clear d q busy = (busy ≡ 0) ⊎ Below d q
 
+  -- something of q is held, and d is not below its ceiling
   abbrev pub Stuck : ℕ → ℕ → ℕ → Type 0
   Stuck d q busy = (busy ≢ 0) × Reached d q
 

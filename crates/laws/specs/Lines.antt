@@ -197,6 +197,7 @@ whole-part b vs = rw (part-text b vs) (whole-append (whole-line (b .head) (lengt
 
 -- ---- texts whose first lines are the same
 
+-- the first n lines of two texts are the same; a missing line equals only a missing one
 pub record SameLines (n : ℕ) (t u : List ℕ) : Type 0 where
   pub same : take n (linesOf t) ≡ take n (linesOf u)
 

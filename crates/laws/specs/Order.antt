@@ -19,6 +19,7 @@ pub data Earlier (d r k d′ r′ k′ : ℕ) : Type 0 where
   by-release : d ≡ d′ → r < r′ → Earlier d r k d′ r′ k′
   by-rank : d ≡ d′ → r ≡ r′ → k < k′ → Earlier d r k d′ r′ k′
 
+-- job i comes before job j in the order of a plan
 abbrev pub EarlierIn : Plan → ℕ → ℕ → Type 0
 EarlierIn p i j =
     Earlier (modifiedDeadline p i) (modifiedRelease p i) (rank p i) (modifiedDeadline p j) (modifiedRelease p j) (rank p j)

@@ -127,10 +127,11 @@ module _ (t : Table) (inside : ArcsInside t) where
 
 -- ---- heights
 
--- how many ancestors a job has, and how many descendants
+-- how many ancestors a job has
 unfoldable pub ancestors : Table → ℕ → ℕ
 ancestors t j = count (λ i. reaches t i j) (jobCount t)
 
+-- how many descendants it has
 unfoldable pub descendants : Table → ℕ → ℕ
 descendants t j = count (λ i. reaches t j i) (jobCount t)
 

@@ -104,22 +104,26 @@ rows-none n f m e = go (lowest f m) (lowest-told f m) e
 
 -- ---- rules 2 to 7, as facts
 
+-- 5 does not apply to job j
 pub record JobIn (t : Table) (j : ℕ) : Type 0 where
   pub release-in : release t j ≤ latest
   pub costs : 1 ≤ cost t j
   pub cost-in : cost t j ≤ mostCost
   pub deadline-in : deadline t j ≤ latest
 
+-- 6 does not apply to arc a
 pub record ArcIn (t : Table) (a : ℕ) : Type 0 where
   pub before-in : before t a < jobCount t
   pub after-in : after t a < jobCount t
 
+-- 7 does not apply to section s
 pub record SectionIn (t : Table) (s : ℕ) : Type 0 where
   pub owner-in : owner t s < jobCount t
   pub resource-in : resource t s < resources
   pub begins : from t s < to t s
   pub fits : to t s ≤ cost t (owner t s)
 
+-- 2 to 7 do not apply
 pub record RowsRight (t : Table) : Type 0 where
   pub jobs-whole : length (t .jobs) % jobWidth ≡ 0
   pub some-job : 1 ≤ jobCount t
@@ -238,6 +242,7 @@ module _ (p : Plan) (e : planInBounds p ≡ true) where
 
 -- ---- an accepted table
 
+-- what is known of an accepted table: 2 to 10 do not apply
 pub record Accepted (t : Table) : Type 0 where
   pub rows : RowsRight t
   pub no-clash : (s : ℕ) → s < sectionCount t → clashes t s ≡ false

@@ -55,6 +55,7 @@ words-more {v} {vs} h w = record { small = go }
 words-rest : {v : ℕ} {vs : List ℕ} → Words (v ∷ vs) → Words vs
 words-rest w = record { small = λ i l. w .small (suc i) (omega arith) }
 
+-- values that were read, the next line and what is left of the text
 abbrev pub taken : List ℕ → ℕ → List ℕ → Taken
 taken vs next rest = record { values = vs; next = next; rest = rest }
 
@@ -103,9 +104,11 @@ text-of t = refl
 abbrev pub onSections : Taken → Taken → Taken → Outcome Table
 onSections j a s = nothingLeft (s .rest) (s .next) (record { jobs = j .values; arcs = a .values; sections = s .values })
 
+-- what comes after the jobs and the arcs
 abbrev pub onArcs : Taken → Taken → Outcome Table
 onArcs j a = andThen (readPart sectionPart (a .next) (a .rest)) (onSections j a)
 
+-- what comes after the jobs
 abbrev pub onJobs : Taken → Outcome Table
 onJobs j = andThen (readPart arcPart (j .next) (j .rest)) (onArcs j)
 
@@ -273,6 +276,7 @@ demands-met false b c e = let z : _≡_ {A = ℕ} 0 1 = cc in absurd (omega arit
 demands-met true false c e = let z : _≡_ {A = ℕ} 0 1 = cc in absurd (omega arith)
 demands-met true true false e = let z : _≡_ {A = ℕ} 0 1 = cc in absurd (omega arith)
 
+-- the lengths of the three lists are right
 pub record AllCounted (t : Table) : Type 0 where
   pub jobs : Counted jobPart (t .jobs)
   pub arcs : Counted arcPart (t .arcs)

@@ -47,6 +47,7 @@ abbrev pub said : Planned → Outcome ℕ
 said (Refused r) = refused (faultOf r)
 said (Times n) = gives n
 
+-- the answer tells how many numbers there are, and the list holds them
 abbrev pub counted : Outcome (List ℕ) → Outcome ℕ
 counted (refused f) = refused f
 counted (gives times) = gives (length times)

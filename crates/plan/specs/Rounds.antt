@@ -27,6 +27,7 @@ abbrev pub sourceOf : List ℕ → Way → ℕ → ℕ
 sourceOf arcs Forward a = getD arcs (2 * a) 0
 sourceOf arcs Back a = getD arcs (2 * a + 1) 0
 
+-- the job that takes it over
 abbrev pub targetOf : List ℕ → Way → ℕ → ℕ
 targetOf arcs Forward a = getD arcs (2 * a + 1) 0
 targetOf arcs Back a = getD arcs (2 * a) 0
@@ -69,6 +70,7 @@ roundTo jobs arcs way (suc k) j =
 abbrev pub short : List ℕ → List ℕ → List ℕ → ℕ → Bool
 short jobs releases tails j = ltb latest (getD releases j 0 + getD jobs (3 * j + 1) 0 + getD tails j 0)
 
+-- 10, at the lowest job whose window is below its cost
 unfoldable pub windowFound : List ℕ → List ℕ → List ℕ → Option Fault
 unfolding lowest
 windowFound jobs releases tails = atRow 10 (lowest (short jobs releases tails) (length jobs / 3))
@@ -80,17 +82,20 @@ pairsTo releases tails (suc n) = pairsTo releases tails n ++ (getD releases n 0 
 
 -- what the code is told of the lists
 
+-- jobs are few, and their values within 5's bounds
 pub record JobsIn (jobs : List ℕ) : Type 0 where
   pub few : length jobs / 3 ≤ 64
   pub release-in : (j : ℕ) → j < length jobs / 3 → getD jobs (3 * j) 0 ≤ latest
   pub cost-in : (j : ℕ) → j < length jobs / 3 → getD jobs (3 * j + 1) 0 ≤ mostCost
   pub deadline-in : (j : ℕ) → j < length jobs / 3 → getD jobs (3 * j + 2) 0 ≤ latest
 
+-- arc a names jobs of the table
 pub record ArcIn (jobs arcs : List ℕ) (a : ℕ) : Type 0 where
   pub in-table : 2 * a + 1 < length arcs
   pub before-in : getD arcs (2 * a) 0 < length jobs / 3
   pub after-in : getD arcs (2 * a + 1) 0 < length jobs / 3
 
+-- so does every arc
 abbrev pub ArcsIn : List ℕ → List ℕ → Type 0
 ArcsIn jobs arcs = (a : ℕ) → a < length arcs / 2 → ArcIn jobs arcs a
 

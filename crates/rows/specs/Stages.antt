@@ -62,18 +62,21 @@ numberUnder Arc = 6
 numberUnder Section = 7
 numberUnder Clash = 8
 
+-- how many rows a rule looks at
 abbrev pub rowsUnder : Table → Rule → ℕ
 rowsUnder t Job = jobCount t
 rowsUnder t Arc = arcCount t
 rowsUnder t Section = sectionCount t
 rowsUnder t Clash = sectionCount t
 
+-- a row breaks the rule
 abbrev pub broken : Table → Rule → ℕ → Bool
 broken t Job = jobOut t
 broken t Arc = arcOut t
 broken t Section = sectionOut t
 broken t Clash = clashes t
 
+-- the lowest row that breaks the rule, under the rule's number
 abbrev pub stage : Table → Rule → Option Fault
 stage t rule = atRow (numberUnder rule) (lowest (broken t rule) (rowsUnder t rule))
 

@@ -17,6 +17,7 @@ use Rattle.run_laws.specs.Marks.{Kin}
 use Rattle.run_laws.specs.Sections.{Nested, listed}
 use Rattle.run_laws.specs.Plans.{jobsOf, sectionsOf}
 
+-- What the theorems use of an accepted table's plan.
 pub record Sound (p : Plan) : Type 0 where
   pub rows : RowsRight (p .table)
   -- refusal 8

@@ -70,6 +70,7 @@ module _ (t : Table) (rows : RowsRight t) where
 -- ---- a plan, as the theory sees it
 
 module _ (p : Plan) (rows : RowsRight (p .table)) where
+  -- its jobs, with the order as one number
   abbrev pub jobsOf : Jobs
   jobsOf =
       record {
@@ -81,6 +82,7 @@ module _ (p : Plan) (rows : RowsRight (p .table)) where
         apart = key-apart p;
       }
 
+  -- its sections
   abbrev pub sectionsOf : Sections
   sectionsOf =
       record {

@@ -63,6 +63,7 @@ module _ (Z : Sections) where
 
   -- ---- what is held
 
+  -- the job of section s has entered it and not left it
   pub record Holds (e : ℕ → ℕ) (s : ℕ) : Type 0 where
     pub entered : Z .from s < e (Z .owner s)
     pub leaves : e (Z .owner s) < Z .to s
@@ -73,6 +74,7 @@ module _ (Z : Sections) where
     pub holding : Holds e s
     pub who : of (Z .owner s) ≡ true
 
+  -- the same as a test
   unfoldable pub holdsOn : (ℕ → Bool) → (ℕ → ℕ) → ℕ → ℕ → Bool
   holdsOn of e q s =
       eqb (Z .resource s) q
@@ -148,6 +150,7 @@ module _ (J : Jobs) where
   abbrev pub pend : ℕ → (ℕ → ℕ) → ℕ → Bool
   pend t e j = leb (J .release j) t && ltb (e j) (J .cost j)
 
+  -- job j comes after job x in the order
   abbrev pub after : ℕ → ℕ → Bool
   after x j = ltb (J .key x) (J .key j)
 
@@ -200,6 +203,7 @@ module _ (J : Jobs) (Z : Sections) (C : Ceilings J Z) where
     pub on : ℕ
     pub stuck : C .clears (C .span waiting) on (held Z (pend J t e) e on) → ⊥
 
+  -- 01's four rules: nobody is pending; the first one goes on; the first one starts; or it may not, and a started one runs
   pub data ByRules (t : ℕ) (e : ℕ → ℕ) : Option ℕ → Type 0 where
     nobody : ((j : ℕ) → Pending J t e j → ⊥) → ByRules t e none
     resumes : {x : ℕ} → First J t e x → 0 < e x → ByRules t e (some x)

@@ -56,6 +56,7 @@ module _ (J : Jobs) where
     pub frame : (k : ℕ) → Frame (e k) (e (suc k)) (pick k)
     pub choice : (k : ℕ) → Choice k (e k) (pick k)
 
+  -- the largest modified release
   abbrev pub lastRelease : ℕ
   lastRelease = largest (λ j. true) (J .release) 0 (J .count)
 

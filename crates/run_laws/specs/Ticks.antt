@@ -86,6 +86,7 @@ module _ (p : Plan) (S : Sound p) where
   unfolding ends
   ends-says st x = eq-says (executed st x + 1) (cost (p .table) x)
 
+  -- job x, if it ends now, ends badly
   abbrev pub Badly : State → Bool → ℕ → Type 0
   Badly st silent x = endsBadly p st x silent ≡ true
 

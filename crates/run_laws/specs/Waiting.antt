@@ -115,10 +115,11 @@ module _ (J : Jobs) (Z : Sections) (C : Ceilings J Z) (R : Run J) (rules : (k : 
   goesAfter j none = false
   goesAfter j (some x) = after J j x
 
-  -- job j waits in tick k, and in how many of the ticks before b it waits
+  -- job j waits in tick k
   abbrev pub waitsAt : ℕ → ℕ → Bool
   waitsAt j k = pend J k (R .e k) j && goesAfter j (R .pick k)
 
+  -- in how many of the ticks before b it waits
   abbrev pub waitedTo : ℕ → ℕ → ℕ
   waitedTo j b = count (waitsAt j) b
 

@@ -14,6 +14,7 @@ abbrev pub matchPlace : Match → ℕ
 matchPlace (Whole n) = n
 matchPlace (Stopped n) = n
 
+-- how many bytes were taken, of a line
 abbrev pub foundPlace : Found → ℕ
 foundPlace (Value v n) = n
 foundPlace (Found.Stopped n) = n

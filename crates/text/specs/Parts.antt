@@ -5,6 +5,7 @@ use Rattle.laws.specs.Text.{Sound, jobs-sound, arcs-sound, sections-sound}
 use Rattle.text.specs.declared.parts.Part.{Part}
 use Rattle.text.specs.declared.parts.Part.the-variants.{Jobs, Arcs, Sections}
 
+-- which part of a text each is
 abbrev pub partOf : Part → rules.Part
 partOf Jobs = jobPart
 partOf Arcs = arcPart

@@ -20,6 +20,7 @@ pub record Gives (b : Part) (t : List ℕ) (o : Outcome Taken) (count at line : 
   pub many : length values ≡ count * b .width
   pub within : at ≤ length t
 
+-- what judging a part of the text answers: where its rows end, or why it is refused
 abbrev pub Judges : Part → List ℕ → Outcome Taken → Judged → Type 0
 Judges b t o (Rows count at line) = Gives b t o count at line
 Judges b t o (Refused r) = o ≡ refused (faultOf r)
@@ -43,16 +44,19 @@ pub record Filled (o : Outcome Taken) (t out out′ : List ℕ) (r : ℕ) : Type
   pub rest : drop r t ≡ takenOf o .rest
   pub list : out′ ≡ put out 0 (takenOf o .values)
 
+-- the table that is given, where one is
 abbrev pub tableOf : Outcome Table → Table
 tableOf (refused f) = record { jobs = []; arcs = []; sections = [] }
 tableOf (gives t) = t
 
+-- the text was judged right, and there is room for its table
 pub record TableReady (text jobs arcs sections : List ℕ) : Type 0 where
   pub given : read text ≡ gives (tableOf (read text))
   pub jobs-room : length (tableOf (read text) .jobs) ≤ length jobs
   pub arcs-room : length (tableOf (read text) .arcs) ≤ length arcs
   pub sections-room : length (tableOf (read text) .sections) ≤ length sections
 
+-- the table stands in the fronts of the lists
 pub record TableFilled (text jobs arcs sections jobs′ arcs′ sections′ : List ℕ) : Type 0 where
   pub jobs-list : jobs′ ≡ put jobs 0 (tableOf (read text) .jobs)
   pub arcs-list : arcs′ ≡ put arcs 0 (tableOf (read text) .arcs)
@@ -60,10 +64,12 @@ pub record TableFilled (text jobs arcs sections jobs′ arcs′ sections′ : Li
 
 -- ---- writing
 
+-- the lengths of the three lists are right
 pub record TableCounted (jobs arcs sections : List ℕ) : Type 0 where
   pub jobs-counted : Counted jobPart jobs
   pub arcs-counted : Counted arcPart arcs
   pub sections-counted : Counted sectionPart sections
 
+-- the text of three lists
 abbrev pub textFrom : List ℕ → List ℕ → List ℕ → List ℕ
 textFrom jobs arcs sections = textOf record { jobs = jobs; arcs = arcs; sections = sections }

@@ -45,9 +45,11 @@ pub record Rows : Type 0 where
   pub arcs : ℕ
   pub sections : ℕ
 
+-- those of a table
 abbrev pub rowsOf : Table → Rows
 rowsOf t = record { jobs = jobCount t; arcs = arcCount t; sections = sectionCount t }
 
+-- the answer tells the counts, and the lists hold the table
 abbrev pub counted : Outcome Table → Outcome Rows
 counted o = andThen o (λ t. gives (rowsOf t))
 

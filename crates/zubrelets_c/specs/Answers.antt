@@ -25,18 +25,22 @@ use Rattle.zubrelets_c.specs.declared.answers.ZubStepped.{ZubStepped}
 use Rattle.zubrelets_c.specs.declared.answers.ZubLate.{ZubLate}
 use Rattle.zubrelets_c.specs.declared.answers.ZubVerdict.{ZubVerdict}
 
+-- Of `zub_read`.
 abbrev pub countsOf : Reading → ZubCounts
 countsOf (Reading.Refused f) = record { refusal = numberOf f; place = placeOf f; jobs = 0; arcs = 0; sections = 0 }
 countsOf (Counts j a s) = record { refusal = 0; place = 0; jobs = j; arcs = a; sections = s }
 
+-- Of `zub_write` and `zub_answer`.
 abbrev pub lengthOf : Writing → ZubLength
 lengthOf (Writing.Refused f) = record { refusal = numberOf f; place = placeOf f; bytes = 0 }
 lengthOf (Bytes n) = record { refusal = 0; place = 0; bytes = n }
 
+-- Of `zub_plan`.
 abbrev pub countOf : Planned → ZubCount
 countOf (Planned.Refused f) = record { refusal = numberOf f; place = placeOf f; times = 0 }
 countOf (Times n) = record { refusal = 0; place = 0; times = n }
 
+-- Of `zub_start` and `zub_run`.
 abbrev pub tickOf : Reached → ZubTick
 tickOf (Reached.Refused f) = record { refusal = numberOf f; place = placeOf f; tick = 0 }
 tickOf (Tick n) = record { refusal = 0; place = 0; tick = n }
@@ -47,14 +51,17 @@ ranOf (Ran.Refused f) n = record { refusal = numberOf f; place = placeOf f; tick
 ranOf Idle n = record { refusal = 0; place = 0; tick = n; ran = 0; job = 0 }
 ranOf (Job j) n = record { refusal = 0; place = 0; tick = n; ran = 1; job = j }
 
+-- Of `zub_step`.
 abbrev pub steppedOf : Stepped → ZubStepped
 steppedOf s = ranOf (s .ran) (s .tick)
 
+-- Of `zub_lateness`.
 abbrev pub lateOf : Late → ZubLate
 lateOf (Late.Refused f) = record { refusal = numberOf f; place = placeOf f; finished = 0; lateness = pos 0 }
 lateOf Unfinished = record { refusal = 0; place = 0; finished = 0; lateness = pos 0 }
 lateOf (By n) = record { refusal = 0; place = 0; finished = 1; lateness = n }
 
+-- Of `zub_density`.
 abbrev pub verdictOf : Verdict → ZubVerdict
 verdictOf (Verdict.Refused f) = record { refusal = numberOf f; place = placeOf f; yes = 0; failing = 0 }
 verdictOf Yes = record { refusal = 0; place = 0; yes = 1; failing = 0 }
