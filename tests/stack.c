@@ -27,6 +27,7 @@ static size_t text_len;
 /* Ends the measuring, saying why. */
 static void fail(const char *why)
 {
+    fflush(stdout);
     fprintf(stderr, "stack: %s\n", why);
     exit(1);
 }
