@@ -76,11 +76,6 @@ static void make_plan(struct plan *p)
 
     zub_verdict dense = zub_density(p->jobs, p->jobs_len, p->arcs, p->arcs_len,
                                     p->sections, p->sections_len, p->times, p->times_len);
-    if (dense.refusal == ZUB_REFUSED_MULTIPLE) {
-        /* The test can't tell, and the plan is none the worse for it. */
-        printf("density: no verdict, refusal %u\n", (unsigned)dense.refusal);
-        return;
-    }
     stop_if_refused("zub_density", dense.refusal, dense.place);
     if (dense.yes)
         printf("density: yes\n");
