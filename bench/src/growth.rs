@@ -1,0 +1,4 @@
+//! How the cost grows.
+
+/// Prints it.
+pub fn print() {}
