@@ -1,7 +1,7 @@
 //! What lies before an entry when it is asked: its inputs, and the lists that it is lent.
 
 use crate::inputs::plan_lists_of;
-use fuzz::abi::{Entries, Numbers, PlanLists};
+use fuzz::abi::{Entries, Numbers, PlanLists, Stepped};
 use second::{Plan, State};
 
 /// What is asked.
@@ -69,7 +69,7 @@ impl Desk {
     }
 
     /// Lends the plan and three lists.
-    pub fn lend(&mut self) -> (PlanLists<'_>, [&mut [u32]; 3]) {
+    fn lend(&mut self) -> (PlanLists<'_>, [&mut [u32]; 3]) {
         let lent = self.words.each_mut().map(Vec::as_mut_slice);
         (plan_lists_of(&self.plan), lent)
     }
@@ -97,11 +97,16 @@ impl Desk {
         }
     }
 
-    /// Steps once from the state and puts back what the step wrote.
-    fn step_and_put_back(&mut self, entries: &impl Entries) -> Numbers {
+    /// Steps once from the state, on the lent lists.
+    pub fn step(&mut self, entries: &impl Entries) -> Stepped {
         let tick = self.state.tick;
         let (plan, lent) = self.lend();
-        let stepped = entries.step(plan, tick, lent, false);
+        entries.step(plan, tick, lent, false)
+    }
+
+    /// Steps once from the state and puts back what the step wrote.
+    fn step_and_put_back(&mut self, entries: &impl Entries) -> Numbers {
+        let stepped = self.step(entries);
         if stepped.ran > 0 {
             let job = stepped.job as usize;
             let state = [&self.state.executed, &self.state.marks, &self.state.finish];

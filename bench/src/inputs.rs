@@ -48,7 +48,8 @@ pub fn layered(jobs: u32, arcs: u32, sections: u32) -> Rows {
     rows.jobs[0] = [0, 100, LATEST];
     while rows.arcs.len() < arcs as usize {
         let layer = random.below(layers - 1);
-        let [before, after] = [layer, layer + 1].map(|of| random.below(jobs / layers) * layers + of);
+        let [before, after] =
+            [layer, layer + 1].map(|of| random.below(jobs / layers) * layers + of);
         if before > 0 {
             rows.arcs.push([before, after]);
         }
@@ -99,7 +100,9 @@ pub fn times(mut rows: Rows, factor: u32) -> Rows {
 pub fn for_density() -> Rows {
     let mut random = Random(7);
     let mut rows = Rows::default();
-    let divisors = (1..=RICH).rev().filter(|divisor| RICH % divisor == 0);
+    let divisors = (1..=RICH)
+        .rev()
+        .filter(|divisor| RICH.is_multiple_of(*divisor));
     let mut spans: Vec<u32> = divisors.take(64).collect();
     random.shuffle(&mut spans);
     for span in spans {

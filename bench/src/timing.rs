@@ -8,24 +8,27 @@ pub const BATCHES: usize = 301;
 /// How long a batch takes at least, in nanoseconds.
 const BATCH: f64 = 200_000.0;
 
-/// Nanoseconds for each call, batch by batch.
-#[derive(Clone, Debug)]
-pub struct Times(Vec<f64>);
+/// Nanoseconds for each call of two ways, batch by batch.
+#[derive(Clone, Debug, Default)]
+pub struct Times([Vec<f64>; 2]);
 
 impl Times {
-    /// Gives the time that this part of the batches is below.
-    fn at(&self, part: f64) -> f64 {
-        quantile(&self.0, part)
+    /// Gives the median of each.
+    pub fn medians(&self) -> [f64; 2] {
+        self.0.each_ref().map(|side| quantile(side, 0.5))
     }
 
-    /// Gives the median.
-    pub fn median(&self) -> f64 {
-        self.at(0.5)
+    /// Gives the time of each that a tenth of its batches is below: what it takes undisturbed.
+    pub fn undisturbed(&self) -> [f64; 2] {
+        self.0.each_ref().map(|side| quantile(side, 0.1))
     }
 
-    /// Gives how far the tenth and the ninetieth percentile are from the median, in percent.
-    pub fn spread(&self) -> [f64; 2] {
-        [0.1, 0.9].map(|part| 100.0 * (self.at(part) / self.median() - 1.0))
+    /// Gives the tenth, the fiftieth and the ninetieth percentile of the ratios of batches that
+    /// stood side by side, the one over the other.
+    pub fn ratios(&self) -> [f64; 3] {
+        let [one, other] = &self.0;
+        let ratios: Vec<f64> = one.iter().zip(other).map(|(a, b)| a / b).collect();
+        [0.1, 0.5, 0.9].map(|part| quantile(&ratios, part))
     }
 }
 
@@ -58,12 +61,12 @@ fn calls<T>(call: &mut impl FnMut() -> T) -> u32 {
 }
 
 /// Times two ways in batches that alternate.
-pub fn both<T>(mut one: impl FnMut() -> T, mut other: impl FnMut() -> T) -> [Times; 2] {
+pub fn both<A, B>(mut one: impl FnMut() -> A, mut other: impl FnMut() -> B) -> Times {
     let counts = [calls(&mut one), calls(&mut other)];
-    let mut times = [Times(Vec::new()), Times(Vec::new())];
+    let mut times = Times::default();
     for _ in 0..BATCHES {
-        times[0].0.push(batch(counts[0], &mut one));
-        times[1].0.push(batch(counts[1], &mut other));
+        times.0[0].push(batch(counts[0], &mut one));
+        times.0[1].push(batch(counts[1], &mut other));
     }
     times
 }

@@ -10,7 +10,7 @@ pub const LAST_TICK: u32 = 10_000_000;
 
 /// Refuses with 2, 3 or 4 where a list has a wrong length.
 pub fn judge_counts(table: TableLists) -> Judged<()> {
-    let whole = |list: &[u32], width: usize| list.len() % width == 0;
+    let whole = |list: &[u32], width: usize| list.len().is_multiple_of(width);
     if !whole(table.jobs, 3) || !(1..=64).contains(&(table.jobs.len() / 3)) {
         return refuse(2, 0);
     }
@@ -57,10 +57,7 @@ fn section_out(jobs: &[u32], section: &[u32]) -> bool {
 /// Tells whether two sections clash.
 fn clash(a: &[u32], b: &[u32]) -> bool {
     let within = |inner: &[u32], outer: &[u32]| outer[2] <= inner[2] && inner[3] <= outer[3];
-    a[0] == b[0]
-        && a[2] < b[3]
-        && b[2] < a[3]
-        && (a[1] == b[1] || !(within(a, b) || within(b, a)))
+    a[0] == b[0] && a[2] < b[3] && b[2] < a[3] && (a[1] == b[1] || !(within(a, b) || within(b, a)))
 }
 
 /// Refuses with 8 the lowest section that clashes with one before it.

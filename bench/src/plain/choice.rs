@@ -37,9 +37,10 @@ fn held(plan: PlanLists, tick: u32, executed: &[u32]) -> [bool; RESOURCES] {
 fn may_start(plan: PlanLists, tick: u32, executed: &[u32], job: usize) -> bool {
     let held = held(plan, tick, executed);
     let own = relative(plan, job);
-    plan.table.sections.chunks_exact(4).all(|section| {
-        !held[section[1] as usize] || own < relative(plan, section[0] as usize)
-    })
+    plan.table
+        .sections
+        .chunks_exact(4)
+        .all(|section| !held[section[1] as usize] || own < relative(plan, section[0] as usize))
 }
 
 /// Gives the job that runs in this tick, none in an idle one.

@@ -45,7 +45,10 @@ fn blocking(plan: PlanLists, ceilings: &[u32; RESOURCES], span: u32) -> u32 {
     let blocks = sections.filter(|section| {
         relative(plan, section[0] as usize) > span && ceilings[section[1] as usize] <= span
     });
-    blocks.map(|section| section[3] - section[2]).max().unwrap_or(0)
+    blocks
+        .map(|section| section[3] - section[2])
+        .max()
+        .unwrap_or(0)
 }
 
 /// Gives the lowest failing place, from 1, or 0 with a yes.

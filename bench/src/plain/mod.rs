@@ -81,18 +81,28 @@ impl Entries for Plain {
         };
         answer!(
             read.map(|counts| (counts[0], counts[1], counts[2])),
-            Counts { jobs, arcs, sections }
+            Counts {
+                jobs,
+                arcs,
+                sections
+            }
         )
     }
 
     #[inline(never)]
     fn write(&self, table: TableLists, out: &mut [u8]) -> Length {
-        answer!(write::write(table, out).map(|bytes| (bytes,)), Length { bytes })
+        answer!(
+            write::write(table, out).map(|bytes| (bytes,)),
+            Length { bytes }
+        )
     }
 
     #[inline(never)]
     fn plan(&self, table: TableLists, times: &mut [u32]) -> Count {
-        answer!(times::plan(table, times).map(|times| (times,)), Count { times })
+        answer!(
+            times::plan(table, times).map(|times| (times,)),
+            Count { times }
+        )
     }
 
     #[inline(never)]
@@ -149,6 +159,9 @@ impl Entries for Plain {
 
     #[inline(never)]
     fn answer(&self, text: &[u8], out: &mut [u8]) -> Length {
-        answer!(answer::answer(text, out).map(|bytes| (bytes,)), Length { bytes })
+        answer!(
+            answer::answer(text, out).map(|bytes| (bytes,)),
+            Length { bytes }
+        )
     }
 }

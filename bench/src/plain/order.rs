@@ -38,7 +38,9 @@ pub fn order(neighbours: &Neighbours, count: usize) -> Judged<[usize; MOST_JOBS]
     let mut placed = 0;
     let mut done = 0_u64;
     let free = |job: &usize| neighbours.before[*job] == 0;
-    let mut ready = (0..count).filter(free).fold(0_u64, |word, job| word | 1 << job);
+    let mut ready = (0..count)
+        .filter(free)
+        .fold(0_u64, |word, job| word | 1 << job);
     while ready != 0 {
         let job = ready.trailing_zeros() as usize;
         ready &= ready - 1;

@@ -98,7 +98,10 @@ pub fn read(text: &[u8], lent: LentLists) -> Judged<[u32; 3]> {
     let mut jobs = [0; 3 * 64];
     let mut arcs = [0; 2 * 256];
     let mut sections = [0; 4 * 128];
-    let mut lines = Lines { rest: text, line: 1 };
+    let mut lines = Lines {
+        rest: text,
+        line: 1,
+    };
     let counts = [
         lines.part(&JOBS, |place, value| jobs[place] = value)?,
         lines.part(&ARCS, |place, value| arcs[place] = value)?,
@@ -116,7 +119,10 @@ pub fn read(text: &[u8], lent: LentLists) -> Judged<[u32; 3]> {
 
 /// Reads a text in two passes, the first of which only judges; gives what [`read`] gives.
 pub fn read_twice(text: &[u8], lent: LentLists) -> Judged<[u32; 3]> {
-    let mut lines = Lines { rest: text, line: 1 };
+    let mut lines = Lines {
+        rest: text,
+        line: 1,
+    };
     let counts = [
         lines.part(&JOBS, |_, _| ())?,
         lines.part(&ARCS, |_, _| ())?,
@@ -128,7 +134,10 @@ pub fn read_twice(text: &[u8], lent: LentLists) -> Judged<[u32; 3]> {
     if jobs.len() < 3 * j || arcs.len() < 2 * a || sections.len() < 4 * s {
         return refuse(11, 0);
     }
-    let mut lines = Lines { rest: text, line: 1 };
+    let mut lines = Lines {
+        rest: text,
+        line: 1,
+    };
     lines.part(&JOBS, |place, value| jobs[place] = value)?;
     lines.part(&ARCS, |place, value| arcs[place] = value)?;
     lines.part(&SECTIONS, |place, value| sections[place] = value)?;
