@@ -76,24 +76,19 @@ fn print_at_bounds() {
     );
 }
 
-/// Times a table and the same with all its times multiplied by a thousand.
-fn print_thousandfold() {
-    println!("\nA table and the same with all times multiplied by 1,000");
-    let sizes = [
-        ("costs 40 to 100", full()),
-        ("costs 100", with_cost(full(), 100)),
-    ];
-    for (name, rows) in sizes {
-        let plans = [plan_of(&rows), plan_of(&times(rows, 1_000))];
-        let mut desk = Desk::of_plan(&plans[0]);
-        let beside = run_beside(&plans[1], || desk.ask(&Library, Asked::Run));
-        let [thousandfold, once] = beside.medians().map(|time| time / 1e3);
-        println!(
-            "  64 / 256 / 128, {name:<16}{once:>8.1} us {thousandfold:>8.1} us   ratio {:.2}   \
-             decisions {:?}",
-            beside.ratios()[1],
-            plans.each_ref().map(decisions),
-        );
+/// Times a table beside the same with all its times multiplied.
+fn print_multiplied() {
+    println!("\n64 jobs of cost 100, 256 arcs, 128 sections, and all times multiplied");
+    let rows = with_cost(full(), 100);
+    let plan = plan_of(&rows);
+    for factor in [10, 100, 1_000] {
+        let multiplied = plan_of(&times(rows.clone(), factor));
+        let mut desk = Desk::of_plan(&plan);
+        let beside = run_beside(&multiplied, || desk.ask(&Library, Asked::Run));
+        let [many, one] = beside.medians().map(|time| time / 1e3);
+        let ratio = beside.ratios()[1];
+        let counts = [&plan, &multiplied].map(decisions);
+        println!("  by {factor:>5}  {one:>8.1} us {many:>8.1} us  ratio {ratio:.2}  decisions {counts:?}");
     }
 }
 
@@ -133,7 +128,7 @@ fn print_decisions() {
 pub fn print() {
     println!("\nA run costs its events\n");
     print_at_bounds();
-    print_thousandfold();
+    print_multiplied();
     print_small();
     print_decisions();
 }

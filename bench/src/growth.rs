@@ -3,51 +3,60 @@
 use crate::desk::{Asked, Desk};
 use crate::inputs::{layered, plan_of};
 use crate::plain::BY_TICKS;
-use crate::timing::both;
-use fuzz::abi::Library;
-use second::rows::Rows;
+use crate::timing::undisturbed;
+use fuzz::abi::{Library, Numbers};
+use second::Plan;
 
-/// Gives the mean time of a step of a run and the time of planning, library and plain each.
-fn costs(rows: &Rows) -> [[f64; 2]; 2] {
-    let plan = plan_of(rows);
-    let ticks = second::run(&plan).expect("it is within bounds").tick;
-    [Asked::Walk, Asked::Plan].map(|asked| {
-        let mut desks = [Desk::of_plan(&plan), Desk::of_plan(&plan)];
-        let [one, other] = &mut desks;
-        let times = both(|| one.ask(&Library, asked), || other.ask(&BY_TICKS, asked));
-        let parts = match asked {
-            Asked::Walk => ticks + 1,
-            _ => 1,
-        };
-        times.undisturbed().map(|time| time / f64::from(parts))
-    })
+/// Jobs, arcs and sections of a table.
+type Size = [u32; 3];
+
+/// A way to ask an entry about a plan.
+type Way = Box<dyn FnMut() -> Numbers>;
+
+/// Gives the four ways that are timed of a plan: a walk and planning, library and plain each.
+fn ways(plan: &Plan) -> [Way; 4] {
+    let [mut a, mut b, mut c, mut d] = [(); 4].map(|()| Desk::of_plan(plan));
+    [
+        Box::new(move || a.ask(&Library, Asked::Walk)),
+        Box::new(move || b.ask(&BY_TICKS, Asked::Walk)),
+        Box::new(move || c.ask(&Library, Asked::Plan)),
+        Box::new(move || d.ask(&BY_TICKS, Asked::Plan)),
+    ]
 }
 
-/// Prints a line for each size.
-fn print_sizes(name: &str, sizes: &[[u32; 3]]) {
+/// Prints a line for each of these sizes; a step is the mean of a run's.
+fn print_sizes(name: &str, sizes: &[Size]) {
+    let tables = sizes
+        .iter()
+        .map(|&[jobs, arcs, sections]| layered(jobs, arcs, sections));
+    let plans: Vec<Plan> = tables.map(|rows| plan_of(&rows)).collect();
+    let mut all: Vec<Way> = plans.iter().flat_map(ways).collect();
+    let times = undisturbed(&mut all);
     println!("\n{name}\n");
     println!(
         "{:>5}{:>6}{:>10}{:>15}{:>13}{:>15}{:>13}",
         "jobs", "arcs", "sections", "step, library", "plain", "plan, library", "plain"
     );
-    for &[jobs, arcs, sections] in sizes {
-        let [step, plan] = costs(&layered(jobs, arcs, sections));
+    for ((&[jobs, arcs, sections], plan), times) in sizes.iter().zip(&plans).zip(times.chunks(4)) {
+        let ticks = second::run(plan).expect("it is within bounds").tick;
+        let steps = f64::from(ticks + 1);
         println!(
             "{jobs:>5}{arcs:>6}{sections:>10}{:>15.0}{:>13.0}{:>15.0}{:>13.0}",
-            step[0], step[1], plan[0], plan[1]
+            times[0] / steps,
+            times[1] / steps,
+            times[2],
+            times[3]
         );
     }
 }
 
 /// Prints how the cost grows with each of the three, and with all of them.
 pub fn print() {
-    println!("\nHow the cost grows, in ns; a step is the mean of a run's");
+    println!("\nHow the cost grows, in ns");
     let jobs = [8, 16, 32, 64];
+    let part = [0, 1, 2, 3, 4];
     print_sizes("Jobs alone", &jobs.map(|jobs| [jobs, 0, 0]));
-    print_sizes("Arcs", &[0, 64, 128, 192, 256].map(|arcs| [64, arcs, 0]));
-    print_sizes(
-        "Sections",
-        &[0, 32, 64, 96, 128].map(|sections| [64, 0, sections]),
-    );
+    print_sizes("Arcs", &part.map(|part| [64, 64 * part, 0]));
+    print_sizes("Sections", &part.map(|part| [64, 0, 32 * part]));
     print_sizes("All", &jobs.map(|jobs| [jobs, 4 * jobs, 2 * jobs]));
 }

@@ -105,6 +105,7 @@ pub fn at_bounds() -> Rows {
 /// Gives the lines of planning, of single steps and of the density test.
 fn plan_lines() -> Vec<Line> {
     let plan = plan_of(&full());
+    let short = plan_of(&with_cost(full(), 4));
     let dense = Desk::of_plan(&plan_of(&for_density()));
     let step = |name, turn| {
         let desk = Desk::of_state(&plan, &state_at(&plan, turn));
@@ -117,7 +118,7 @@ fn plan_lines() -> Vec<Line> {
             Asked::Plan,
         ),
         walk("step, 4 jobs, mean of a run", &plan_of(&layered(4, 3, 2))),
-        walk("step, 64 / 256 / 128, mean of a run", &plan),
+        walk("step, 64 / 256 / 128, mean of a run", &short),
         step("  the first pending job runs on", Turn::RunsOn),
         step("  it starts", Turn::Starts),
         step("  it is held back", Turn::HeldBack),

@@ -5,6 +5,8 @@ use std::time::Instant;
 
 /// Batches of each of the two.
 pub const BATCHES: usize = 301;
+/// Batches of each of many.
+const ROUNDS: usize = 101;
 /// How long a batch takes at least, in nanoseconds.
 const BATCH: f64 = 200_000.0;
 
@@ -16,11 +18,6 @@ impl Times {
     /// Gives the median of each.
     pub fn medians(&self) -> [f64; 2] {
         self.0.each_ref().map(|side| quantile(side, 0.5))
-    }
-
-    /// Gives the time of each that a tenth of its batches is below: what it takes undisturbed.
-    pub fn undisturbed(&self) -> [f64; 2] {
-        self.0.each_ref().map(|side| quantile(side, 0.1))
     }
 
     /// Gives the tenth, the fiftieth and the ninetieth percentile of the ratios of batches that
@@ -40,7 +37,7 @@ fn quantile(values: &[f64], part: f64) -> f64 {
 }
 
 /// Gives the nanoseconds for each of so many calls.
-fn batch<T>(calls: u32, call: &mut impl FnMut() -> T) -> f64 {
+fn batch<T>(calls: u32, call: &mut (impl FnMut() -> T + ?Sized)) -> f64 {
     let begun = Instant::now();
     for _ in 0..calls {
         black_box(call());
@@ -49,7 +46,7 @@ fn batch<T>(calls: u32, call: &mut impl FnMut() -> T) -> f64 {
 }
 
 /// Gives how many calls a batch has.
-fn calls<T>(call: &mut impl FnMut() -> T) -> u32 {
+fn calls<T>(call: &mut (impl FnMut() -> T + ?Sized)) -> u32 {
     let mut calls = 1;
     loop {
         let taken = batch(calls, call) * f64::from(calls);
@@ -69,4 +66,17 @@ pub fn both<A, B>(mut one: impl FnMut() -> A, mut other: impl FnMut() -> B) -> T
         times.0[1].push(batch(counts[1], &mut other));
     }
     times
+}
+
+/// Gives for each of many ways the nanoseconds that a tenth of its batches is below: what it takes
+/// undisturbed. The ways take turns, so that no stretch of time falls on one of them alone.
+pub fn undisturbed<T>(ways: &mut [Box<dyn FnMut() -> T + '_>]) -> Vec<f64> {
+    let counts: Vec<u32> = ways.iter_mut().map(|way| calls(way.as_mut())).collect();
+    let mut times = vec![Vec::new(); ways.len()];
+    for _ in 0..ROUNDS {
+        for ((way, &count), times) in ways.iter_mut().zip(&counts).zip(&mut times) {
+            times.push(batch(count, way.as_mut()));
+        }
+    }
+    times.iter().map(|times| quantile(times, 0.1)).collect()
 }
