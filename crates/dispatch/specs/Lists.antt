@@ -7,6 +7,7 @@ use Prim.Native.Nat.{ℕ, _+_, _*_, _/_, _≤_, _<_}
 use native.Mathlib.Omega.{arith}
 use lib.ListN.{length, getD}
 use lib.Dec.{ltb, eqb}
+use borrow.Author.Tests.{lt-ltb, le-ltb}
 use Rattle.rules.specs.Rows.{sum}
 use Rattle.rules.specs.Table.{Plan, State, resources, owner, resource, span}
 pub use Rattle.rules.specs.Lists.{plan, state}
@@ -31,6 +32,10 @@ asOption Nothing = none
 abbrev pub Within : Found → ℕ → Type 0
 Within (At j) n = j < n
 Within Nothing n = Unit {0}
+
+-- row b, where it is one of the first n
+unfoldable pub rowBelow : ℕ → ℕ → Option ℕ
+rowBelow n b = cond (ltb b n) (some b) none
 
 -- pending, and started where only started jobs are asked for
 unfoldable pub candidate : Bool → Plan → State → ℕ → Bool
@@ -89,3 +94,11 @@ pub record Bounded (jobs times : List ℕ) : Type 0 where
   pub pairs : 2 * (length jobs / 3) ≤ length times
   pub releases : (j : ℕ) → j < length jobs / 3 → getD times (2 * j) 0 ≤ 1000000
   pub costs : (j : ℕ) → j < length jobs / 3 → getD jobs (3 * j + 1) 0 ≤ 100000
+
+pub row-within : {n b : ℕ} → b < n → rowBelow n b ≡ some b
+unfolding rowBelow
+row-within {n} {b} h = rw (lt-ltb b n h)
+
+pub row-past : {n b : ℕ} → n ≤ b → rowBelow n b ≡ none
+unfolding rowBelow
+row-past {n} {b} h = rw (le-ltb b n h)

@@ -11,7 +11,7 @@ ghost use lib.ListN.{length, getD};
 ghost use Rattle.rules.specs.Rows.{all, first, better};
 ghost use Rattle.rules.specs.Tick.{holds, pending, chosen};
 ghost use Rattle.rules.specs.Order.{comesBefore};
-ghost use Rattle.dispatch.specs.Lists.{plan, timed, at, asOption, Within, candidate, Sized, SectionsFit, HeldTo, clearOf};
+ghost use Rattle.dispatch.specs.Lists.{plan, timed, at, asOption, Within, rowBelow, candidate, Sized, SectionsFit, HeldTo, clearOf};
 
 // A job that was looked for.
 pub enum Found {
@@ -81,7 +81,7 @@ fn is_candidate(release: Instant, tick: u32, executed: u32, cost: u32, started_o
     true
 }
 
-// The turn of the choice: job j against the best so far.
+// The turn of the choice: job j against the best so far, which is past the last job where there is none.
 fn turn(
     jobs: &[u32],
     times: &[u32],
@@ -89,11 +89,11 @@ fn turn(
     executed: &[u32],
     started_only: bool,
     j: usize,
-    best: Found,
-) -> Found
-    requires { ⌜ Sized (now jobs) (now times) (now executed) × (j < length (now executed)) × Within best (length (now executed)) ⌝ }
-    ensures { λ r. ⌜ Within r (length (now (executed .entry)))
-        × (asOption r ≡ better (comesBefore (timed (now (jobs .entry)) (now (times .entry)))) (candidate «started_only» (timed (now (jobs .entry)) (now (times .entry))) (at tick (now (executed .entry))) j) j (asOption best)) ⌝ }
+    best: usize,
+) -> usize
+    requires { ⌜ Sized (now jobs) (now times) (now executed) × (j < length (now executed)) ⌝ }
+    ensures { λ r. ⌜ rowBelow (length (now (executed .entry))) r
+        ≡ better (comesBefore (timed (now (jobs .entry)) (now (times .entry)))) (candidate «started_only» (timed (now (jobs .entry)) (now (times .entry))) (at tick (now (executed .entry))) j) j (rowBelow (length (now (executed .entry))) best) ⌝ }
 {
     if !is_candidate(
         release_of(times, j),
@@ -104,16 +104,13 @@ fn turn(
     ) {
         return best;
     }
-    match best {
-        Found::Nothing => Found::At(j),
-        Found::At(old) => {
-            if comes_before(times, j, old) {
-                Found::At(j)
-            } else {
-                best
-            }
-        }
+    if executed.len() <= best {
+        return j;
     }
+    if comes_before(times, j, best) {
+        return j;
+    }
+    best
 }
 
 // The first pending job in the order, or the first started one of them.
@@ -129,13 +126,16 @@ pub fn first_job(
         × (asOption r ≡ first (comesBefore (timed (now (jobs .entry)) (now (times .entry)))) (candidate «started_only» (timed (now (jobs .entry)) (now (times .entry))) (at tick (now (executed .entry)))) (length (now (executed .entry)))) ⌝ }
 {
     let n = executed.len();
-    let mut best = Found::Nothing;
+    let mut best = n;
     let mut j = 0;
     while j < n {
         best = turn(jobs, times, tick, executed, started_only, j, best);
         j += 1;
     }
-    best
+    if n <= best {
+        return Found::Nothing;
+    }
+    Found::At(best)
 }
 
 // A number of a section's row.

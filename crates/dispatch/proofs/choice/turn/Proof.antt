@@ -1,13 +1,11 @@
 -- One turn of the choice is `better`: the four ways out of the code are its four ways.
 use mathlib.Core.Bool.{true}
-use native.Mathlib.Omega.{arith}
-use lib.ListN.{length}
-use Prim.Native.Nat.{_<_}
-use Rattle.dispatch.specs.Lists.{timed, at, candidate}
-use Rattle.laws.specs.First.{better-is, kept, opened, passed, stayed}
-use Rattle.rules.specs.Order.{comesBefore}
-use borrow.Author.Tests.{not-true, not-false}
 use mathlib.Core.Path.{_≡_, sym, _∙_}
+use native.Mathlib.Omega.{arith}
+use borrow.Author.Tests.{not-true, not-false}
+use Rattle.rules.specs.Order.{comesBefore}
+use Rattle.laws.specs.First.{better-is, kept, opened, passed, stayed}
+use Rattle.dispatch.specs.Lists.{timed, at, candidate, row-within, row-past}
 use borrow.Author.Needs.{needs}
 use Rattle.dispatch.proofs.choice.turn.Statement.{statement}
 use Rattle.dispatch.proofs.choice.turn.Tie as tie
@@ -19,17 +17,11 @@ tested : (c : tie.After-is-candidate) →
 unfolding candidate
 tested c = rw (← c .before .before .before .release-of .ensures) (c .is-candidate .ensures)
 
--- in the arms that follow, the job passes
+-- in the ways out that follow, the job passes
 passing : (c : tie.Else1) →
     let a = c .before .before .before .before .before .before .before .before .args in
     candidate (a .started-only) (timed (a .jobs .now) (a .times .now)) (at (a .tick) (a .executed .now)) (a .j) ≡ true
 passing c = sym (tested (c .before)) ∙ not-false _ (c .if1 .left)
-
--- the best so far, where there is one, is a job of the table
-known : (c : tie.After-best) → let a = c .before .before .before .before .before .before .before .before .before .before .args in
-    c .best .given .0 .0 < length (a .executed .now)
-known c =
-    rw (c .best .given .1) at (c .before .before .before .before .before .before .before .before .before .before .pre .2)
 
 release-of-requires : tie.Need-release-of-requires
 release-of-requires c κs = search needs
@@ -56,35 +48,28 @@ is-candidate-requires : tie.Need-is-candidate-requires
 is-candidate-requires c κs = search needs
 
 returns : tie.Need-returns
-returns c = (search needs, rw (sym (tested (c .before)) ∙ not-true _ (c .if1 .taken)) (sym (better-is kept)))
-
-enum-told : tie.Need-enum-told
-enum-told c = search needs
-
-enum-known-best : tie.Need-enum-known-best
-enum-known-best c = search needs
-
-comes-before-requires : tie.Need-comes-before-requires
-comes-before-requires c κs = let k = known (c .before) in omega arith
+returns c = rw (sym (tested (c .before)) ∙ not-true _ (c .if1 .taken)) (sym (better-is kept))
 
 returns-2 : tie.Need-returns-2
-returns-2 c = (search needs, rw (passing (c .before .before), c .enum-told .given .1) (sym (better-is opened)))
+returns-2 c =
+    let a = c .before .before .before .before .before .before .before .before .before in
+    rw (passing (c .before), row-past (c .if2 .taken), row-within (a .pre .1)) (sym (better-is opened))
+
+comes-before-requires : tie.Need-comes-before-requires
+comes-before-requires c κs = search needs
 
 returns-3 : tie.Need-returns-3
 unfolding comesBefore
 returns-3 c =
-    let b = c .before .before .before in (
-      search needs,
-      rw (passing (b .before .before), b .best .given .1) (sym (better-is (passed (sym (c .before .comes-before .ensures) ∙ c .if2 .taken)))),
-    )
+    let a = c .before .before .before .before .before .before .before .before .before .before .before in
+    rw (passing (c .before .before .before), row-within (c .before .before .if2 .left), row-within (a .pre .1))
+    (sym (better-is (passed (sym (c .before .comes-before .ensures) ∙ c .if3 .taken))))
 
 returns-4 : tie.Need-returns-4
 unfolding comesBefore
 returns-4 c =
-    let b = c .before .before .before in (
-      known b,
-      rw (passing (b .before .before), b .best .given .1) (sym (better-is (stayed (sym (c .before .comes-before .ensures) ∙ c .if2 .left)))),
-    )
+    rw (passing (c .before .before .before), row-within (c .before .before .if2 .left))
+    (sym (better-is (stayed (sym (c .before .comes-before .ensures) ∙ c .if3 .left))))
 
 pub turn-spec : {M : Type 1} → statement M
 turn-spec =
@@ -99,9 +84,7 @@ turn-spec =
     shared-slice-read-is-candidate-2
     is-candidate-requires
     returns
-    enum-told
-    enum-known-best
-    comes-before-requires
     returns-2
+    comes-before-requires
     returns-3
     returns-4)
