@@ -196,9 +196,9 @@ fn held_units(
 }
 
 // Whether nothing is held of the resource of section s, or this span is below that of the job that owns the section.
-fn clears(span: Span, sections: &[u32], times: &[u32], units: [u32; 16], s: usize) -> bool
+fn clears(span: Span, sections: &[u32], times: &[u32], units: &[u32; 16], s: usize) -> bool
     requires { ⌜ SectionsFit (now sections) (length (now times) / 2) × (s < length (now sections) / 4) ⌝ }
-    ensures { λ r. ⌜ r ≡ clearOf (plan [] [] (now (sections .entry)) (now (times .entry))) (span .0) units s ⌝ }
+    ensures { λ r. ⌜ r ≡ clearOf (plan [] [] (now (sections .entry)) (now (times .entry))) (span .0) (now (units .entry)) s ⌝ }
 {
     let q = entry(sections, 4 * s + 1);
     if units[q] == 0 {
@@ -209,9 +209,9 @@ fn clears(span: Span, sections: &[u32], times: &[u32], units: [u32; 16], s: usiz
 }
 
 // Whether a job of this span is below the ceiling of every resource of which units are held.
-fn may_start(span: Span, sections: &[u32], times: &[u32], units: [u32; 16]) -> bool
+fn may_start(span: Span, sections: &[u32], times: &[u32], units: &[u32; 16]) -> bool
     requires { ⌜ SectionsFit (now sections) (length (now times) / 2) ⌝ }
-    ensures { λ r. ⌜ r ≡ all (clearOf (plan [] [] (now (sections .entry)) (now (times .entry))) (span .0) units) (length (now (sections .entry)) / 4) ⌝ }
+    ensures { λ r. ⌜ r ≡ all (clearOf (plan [] [] (now (sections .entry)) (now (times .entry))) (span .0) (now (units .entry))) (length (now (sections .entry)) / 4) ⌝ }
 {
     let many = sections.len() / 4;
     let mut s = 0;
@@ -238,7 +238,7 @@ pub fn choose(jobs: &[u32], sections: &[u32], times: &[u32], tick: u32, executed
                 return first;
             }
             let units = held_units(jobs, sections, times, tick, executed);
-            if may_start(span_of(times, job), sections, times, units) {
+            if may_start(span_of(times, job), sections, times, &units) {
                 return first;
             }
             first_job(jobs, times, tick, executed, true)

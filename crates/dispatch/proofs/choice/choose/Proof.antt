@@ -45,13 +45,13 @@ in-table c = rw (c .first .given .1) at (c .before .before .first-job .ensures .
 
 -- the test of the ceilings is 01's
 abbrev named : tie.After-may-start → tie.After-first
-named c = c .before .before .before .before .before .before
+named c = c .before .before .before .before .before .before .before
 
 may : (c : tie.After-may-start) → c .may-start .result ≡ mayStart (P (begin (named c))) (S (begin (named c))) (job (named c))
 unfolding clearOf
 may c =
     c .may-start .ensures
-    ∙ may-start-is (P (begin (named c))) (S (begin (named c))) _ (c .before .before .held-units .ensures) (λ s l. begin (named c) .pre .1 .inside s l .1) (job (named c)) _ (c .before .span-of .ensures)
+    ∙ may-start-is (P (begin (named c))) (S (begin (named c))) _ (c .before .before .before .held-units .ensures) (λ s l. begin (named c) .pre .1 .inside s l .1) (job (named c)) _ (c .before .before .span-of .ensures)
 
 first-job-requires : tie.Need-first-job-requires
 first-job-requires c κs = search needs
@@ -82,15 +82,15 @@ span-of-requires c κs = let h = in-table (c .before .before .before .before) in
 
 may-start-requires : tie.Need-may-start-requires
 may-start-requires c κs =
-    let b = begin (c .before .before .before .before .before) .pre in
-    let e : length (begin (c .before .before .before .before .before) .args .times .now) / 2 ≡ length (begin (c .before .before .before .before .before) .args .executed .now) = omega arith in
+    let b = begin (c .before .before .before .before .before .before) .pre in
+    let e : length (begin (c .before .before .before .before .before .before) .args .times .now) / 2 ≡ length (begin (c .before .before .before .before .before .before) .args .executed .now) = omega arith in
     rw e (b .1)
 
 returns-2 : tie.Need-returns-2
 unfolding started
 returns-2 c =
-    let f = c .before .before .before .before .before .before .before in
-    (in-table f, sym (chosen-starts _ _ _ (at-job f) (le-ltb _ _ (c .before .before .before .before .if1 .left)) (sym (may (c .before)) ∙ c .if2 .taken)))
+    let f = c .before .before .before .before .before .before .before .before in
+    (in-table f, sym (chosen-starts _ _ _ (at-job f) (le-ltb _ _ (c .before .before .before .before .before .if1 .left)) (sym (may (c .before)) ∙ c .if2 .taken)))
 
 first-job-requires-2 : tie.Need-first-job-requires-2
 first-job-requires-2 c κs = search needs
@@ -103,11 +103,11 @@ returns-3 c =
 returns-4 : tie.Need-returns-4
 unfolding started comesBefore candidate pending
 returns-4 c =
-    let f = c .before .before .before .before .before .before .before .before in (
+    let f = c .before .before .before .before .before .before .before .before .before in (
       c .first-job2 .ensures .0,
       c .first-job2 .ensures .1
           ∙ first-started-is (P (begin f)) (S (begin f)) _ (omega arith)
-          ∙ sym (chosen-detains _ _ _ (at-job f) (le-ltb _ _ (c .before .before .before .before .before .if1 .left)) (sym (may (c .before .before)) ∙ c .before .if2 .left)),
+          ∙ sym (chosen-detains _ _ _ (at-job f) (le-ltb _ _ (c .before .before .before .before .before .before .if1 .left)) (sym (may (c .before .before)) ∙ c .before .if2 .left)),
     )
 
 pub choose-spec : {M : Type 1} → statement M

@@ -25,12 +25,12 @@ entry-requires c κs = search needs
 mul-if1 : tie.Need-mul-if1
 mul-if1 c = let h = inside c in omega arith
 
-array-read-if1 : tie.Need-array-read-if1
-array-read-if1 c = let h = inside c in omega arith
+element-copy-out-if1 : tie.Need-element-copy-out-if1
+element-copy-out-if1 c = let h = inside c in omega arith
 
 returns : tie.Need-returns
 unfolding clearOf
-returns c = rw (← c .before .entry .ensures, eq-eqb _ _ (c .if1 .taken))
+returns c = rw (← c .before .before .entry .ensures, eq-eqb _ _ (c .if1 .taken))
 
 mul-entry-2 : tie.Need-mul-entry-2
 mul-entry-2 c = search needs
@@ -39,7 +39,7 @@ entry-requires-2 : tie.Need-entry-requires-2
 entry-requires-2 c κs = search needs
 
 span-of-requires : tie.Need-span-of-requires
-span-of-requires c κs = let h = inside (c .before .before) in omega arith
+span-of-requires c κs = let h = inside (c .before .before .before) in omega arith
 
 below-requires : tie.Need-below-requires
 below-requires c κs = search needs
@@ -48,7 +48,7 @@ returns-2 : tie.Need-returns-2
 unfolding clearOf
 returns-2 c =
     let e = c .before .before in
-    rw (← e .before .before .entry .ensures, ne-eqb _ _ (e .before .if1 .left), ← e .entry2 .ensures, ← c .before .span-of .ensures) (c .below .ensures)
+    rw (← e .before .before .before .entry .ensures, ne-eqb _ _ (e .before .if1 .left), ← e .entry2 .ensures, ← c .before .span-of .ensures) (c .below .ensures)
 
 pub clears-spec : {M : Type 1} → statement M
 clears-spec =
@@ -58,7 +58,7 @@ clears-spec =
     add-entry
     entry-requires
     mul-if1
-    array-read-if1
+    element-copy-out-if1
     returns
     mul-entry-2
     entry-requires-2
