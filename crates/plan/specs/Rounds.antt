@@ -1,6 +1,6 @@
 -- Rounds over the arcs: after k rounds each job has what 01's equations give it, cut at depth k.
 use mathlib.Core.Path.{_≡_, refl, sym, _∙_, ap}
-use mathlib.Core.Bool.{Bool, false, cond}
+use mathlib.Core.Bool.{Bool, true, false, cond}
 use mathlib.Core.List.{List, [], _∷_, _++_, append-assoc}
 use mathlib.Core.Option.{Option, none, some}
 use Prim.Native.Nat.{ℕ, zero, suc, _+_, _*_, _-_, _/_, _≤_, _<_, max}
@@ -12,10 +12,11 @@ use lib.Seq.{getD-set-same, getD-set-other, set-getD, set-at, drop-cons}
 use lib.Dec.{eqb, ltb}
 use borrow.Author.Count.{below-more}
 use borrow.Author.Tests.{eq-eqb, ne-eqb, lt-ltb}
-use Rattle.rules.specs.Rows.{largest, lowest}
+use Rattle.rules.specs.Rows.{all, largest, lowest}
 use Rattle.rules.specs.Table.{latest, mostCost, mostJobs}
 use Rattle.rules.specs.Refusals.{Fault, fault, atRow}
-use Rattle.laws.specs.Rows.{largest-most, largest-ext}
+use Rattle.laws.specs.Tests.{eq-says, yes-says}
+use Rattle.laws.specs.Rows.{all-at, largest-most, largest-ext}
 use Rattle.rows.specs.Stages.{at-found, at-none}
 use Rattle.plan.specs.declared.modified.Way.{Way}
 use Rattle.plan.specs.declared.modified.Way.the-variants.{Forward, Back}
@@ -218,6 +219,32 @@ module _ (jobs arcs : List ℕ) (way : Way) where
 
   pub round-end : (v : List ℕ) (k n : ℕ) → k ≤ n → n ≤ k → Holds jobs (roundTo jobs arcs way k) v → Holds jobs (roundTo jobs arcs way n) v
   round-end v k n p q H = let e : k ≡ n = omega arith in rw e at H
+
+  -- a round that changes nothing is followed by none that does
+  stays : (k : ℕ) → ArcsIn jobs arcs → ((j : ℕ) → j < length jobs / 3 → roundTo jobs arcs way (suc k) j ≡ roundTo jobs arcs way k j)
+      → (d j : ℕ) → j < length jobs / 3 → roundTo jobs arcs way (d + k) j ≡ roundTo jobs arcs way k j
+  unfolding roundTo
+  stays k A h zero j l = let e : 0 + k ≡ k = omega arith in rw e refl
+  stays k A h (suc d) j l =
+      let e : suc d + k ≡ suc (d + k) = omega arith in
+      rw e
+      (largest-ext _ _ (λ a. roundTo jobs arcs way (d + k) (sourceOf arcs way a) + gainOf jobs way (sourceOf arcs way a))
+      (λ a. roundTo jobs arcs way k (sourceOf arcs way a) + gainOf jobs way (sourceOf arcs way a))
+      (startOf jobs way j) (length arcs / 2) (λ a q. refl)
+      (λ a q e. ap (λ x. x + gainOf jobs way (sourceOf arcs way a)) (stays k A h d (sourceOf arcs way a) (source-in a (A a q))))
+      ∙ h j l)
+
+  pub round-stays : (old v : List ℕ) (k n : ℕ) → ArcsIn jobs arcs → Holds jobs (roundTo jobs arcs way k) old → Holds jobs (roundTo jobs arcs way (k + 1)) v
+      → all (λ j. eqb (getD old j 0) (getD v j 0)) (length jobs / 3) ≡ true → k ≤ n → Holds jobs (roundTo jobs arcs way n) old
+  round-stays old v k n A O H e h =
+      let again : (j : ℕ) → j < length jobs / 3 → roundTo jobs arcs way (suc k) j ≡ roundTo jobs arcs way k j =
+      λ j l.
+      rw (← add-one k)
+      (sym (H .at j l)
+      ∙ sym (yes-says (eq-says (getD old j 0) (getD v j 0)) (all-at (λ i. eqb (getD old i 0) (getD v i 0)) (length jobs / 3) e j l))
+      ∙ O .at j l) in
+      let q : n - k + k ≡ n = omega arith in
+      record { size = O .size; at = λ j l. O .at j l ∙ sym (rw q at (stays k A again (n - k) j l)) }
 
   -- each round adds one cost at most
   round-low : (k j : ℕ) → JobsIn jobs → ArcsIn jobs arcs → j < length jobs / 3 → roundTo jobs arcs way k j ≤ latest + k * mostCost

@@ -7,6 +7,8 @@ use rules::Refusal;
 ghost use mathlib.Core.Path.{_≡_};
 ghost use mathlib.Core.List.{_++_};
 ghost use Prim.Native.Nat.{_+_, _*_, _/_, _<_, _≤_};
+ghost use lib.Dec.{eqb};
+ghost use Rattle.rules.specs.Rows.{all};
 ghost use lib.ListN.{length, getD, drop};
 ghost use Rattle.rules.specs.Table.{latest};
 ghost use Rattle.rows.specs.Judged.{faultIn};
@@ -118,7 +120,22 @@ fn round(jobs: &[u32], arcs: &[u32], way: Way, old: &[u32; 64]) -> [u32; 64]
     new
 }
 
-// As many rounds as there are jobs.
+// Whether two rounds gave the first n jobs the same.
+fn alike(old: &[u32; 64], new: &[u32; 64], n: usize) -> bool
+    requires { ⌜ (n ≤ 64) × (length (now old) ≡ 64) × (length (now new) ≡ 64) ⌝ }
+    ensures { λ r. ⌜ r ≡ all (λ j. eqb (getD (now (old .entry)) j 0) (getD (now (new .entry)) j 0)) n ⌝ }
+{
+    let mut j = 0;
+    while j < n {
+        if old[j] != new[j] {
+            return false;
+        }
+        j += 1;
+    }
+    true
+}
+
+// As many rounds as there are jobs, or until one changes nothing: then no later one would.
 pub fn rounds(jobs: &[u32], arcs: &[u32], way: Way) -> [u32; 64]
     requires { ⌜ JobsIn (now jobs) × ArcsIn (now jobs) (now arcs) ⌝ }
     ensures { λ r. ⌜ Holds (now (jobs .entry)) (roundTo (now (jobs .entry)) (now (arcs .entry)) way (length (now (jobs .entry)) / 3)) r ⌝ }
@@ -128,6 +145,9 @@ pub fn rounds(jobs: &[u32], arcs: &[u32], way: Way) -> [u32; 64]
     let mut k = 0;
     while k < n {
         let w = round(jobs, arcs, way, &v);
+        if alike(&v, &w, n) {
+            return v;
+        }
         v = w;
         k += 1;
     }
