@@ -38,12 +38,16 @@ facts : (c : tie.After-enum-told) → let s = began c in
 facts c =
     reached-holds _ _ _ _ _ (ap (λ (r : Reached). told r (L₁ (began c))) (sym (c .enum-told .given .1)) ∙ began c .start .ensures .is)
 
-roomy : (c : tie.After-enum-told) → let s = begin (began c) in
-    (planInBounds (P s) ≡ true)
-    × (jobCount (P s .table) ≤ length (s .args .executed .now))
-    × (jobCount (P s .table) ≤ length (s .args .marks .now))
-    × (jobCount (P s .table) ≤ length (s .args .finish .now))
-roomy c = start-room (P (begin (began c))) _ _ _ (facts c .0)
+-- and the fronts are as long as the table
+roomy : (c : tie.After-enum-told) → let s = began c in
+    (planInBounds (P (begin s)) ≡ true)
+    × (jobCount (P (begin s) .table) ≤ length (L₁ s .executed))
+    × (jobCount (P (begin s) .table) ≤ length (L₁ s .marks))
+    × (jobCount (P (begin s) .table) ≤ length (L₁ s .finish))
+roomy c =
+    let r = start-room (P (begin (began c))) _ _ _ (facts c .0) in
+    let k = began c .start .kept .1 .1 .1 .1 in
+    (r .0, rw (k .0) (r .1), rw (k .1 .0) (r .2), rw (k .1 .1 .0) (r .3))
 
 start-requires : tie.Need-start-requires
 start-requires c κs = search needs
@@ -72,28 +76,27 @@ enum-told : tie.Need-enum-told
 enum-told c = search needs
 
 slice-relend-prefix-run-on : tie.Need-slice-relend-prefix-run-on
-slice-relend-prefix-run-on c = omega (arith, roomy c .1)
+slice-relend-prefix-run-on c = roomy c .1
 
 slice-aggregate-run-on : tie.Need-slice-aggregate-run-on
-slice-aggregate-run-on c = sym (length-take-le _ _ (omega (arith, roomy (c .before) .1)))
+slice-aggregate-run-on c = sym (length-take-le _ _ (roomy (c .before) .1))
 
 slice-relend-prefix-run-on-2 : tie.Need-slice-relend-prefix-run-on-2
-slice-relend-prefix-run-on-2 c = omega (arith, roomy (c .before) .2)
+slice-relend-prefix-run-on-2 c = roomy (c .before) .2
 
 slice-aggregate-run-on-2 : tie.Need-slice-aggregate-run-on-2
-slice-aggregate-run-on-2 c = sym (length-take-le _ _ (omega (arith, roomy (c .before .before) .2)))
+slice-aggregate-run-on-2 c = sym (length-take-le _ _ (roomy (c .before .before) .2))
 
 slice-relend-prefix-run-on-3 : tie.Need-slice-relend-prefix-run-on-3
-slice-relend-prefix-run-on-3 c = omega (arith, roomy (c .before .before) .3)
+slice-relend-prefix-run-on-3 c = roomy (c .before .before) .3
 
 slice-aggregate-run-on-3 : tie.Need-slice-aggregate-run-on-3
-slice-aggregate-run-on-3 c = sym (length-take-le _ _ (omega (arith, roomy (c .before .before .before) .3)))
+slice-aggregate-run-on-3 c = sym (length-take-le _ _ (roomy (c .before .before .before) .3))
 
 run-on-requires : tie.Need-run-on-requires
 run-on-requires c κs =
-    let t = c .before .before .before in
-    let r = roomy t in
-    (plan-fit _ _ _ _ 0 _ _ _ (r .0) (length-take-le _ _ (omega arith)) (length-take-le _ _ (omega arith)) (length-take-le _ _ (omega arith)), bounded _ _ _ _ (r .0))
+    let r = roomy (c .before .before .before) in
+    (plan-fit _ _ _ _ 0 _ _ _ (r .0) (length-take-le _ _ (r .1)) (length-take-le _ _ (r .2)) (length-take-le _ _ (r .3)), bounded _ _ _ _ (r .0))
 
 same-length-4 : tie.Need-same-length-4
 same-length-4 c = search needs
@@ -112,12 +115,13 @@ returns-2 c =
     let s = began t in
     let n = jobCount (P (begin s) .table) in
     let r = roomy t in
+    let k = o .run-on .kept .1 .1 .1 .1 in
     record {
       is =
           run-holds (P (begin s)) (L (begin s)) (L₁ s) _ _ _ _ (facts t .1) (o .run-on .ensures)
-          (omega (arith, length-take-le n (L₁ s .executed) (omega arith)))
-          (omega (arith, length-take-le n (L₁ s .marks) (omega arith)))
-          (omega (arith, length-take-le n (L₁ s .finish) (omega arith)))
+          (k .0 ∙ length-take-le n (L₁ s .executed) (r .1))
+          (k .1 .0 ∙ length-take-le n (L₁ s .marks) (r .2))
+          (k .1 .1 .0 ∙ length-take-le n (L₁ s .finish) (r .3))
           ∙ sym (ap (reachFor (endState (P (begin s))) (L (begin s))) (facts t .0));
     }
 
