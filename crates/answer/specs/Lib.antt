@@ -1,4 +1,3 @@
--- What the contracts of this crate cite, and the laws of its proofs.
+-- What the contract of `answer` cites, and the laws of its stages.
 pub mod Promise
-pub mod Page
 pub mod Stages

@@ -1,7 +1,7 @@
 -- What the stages of an answer hand on: the lists have room for every table, so reading, planning and running come to what
 -- the rules give.
 use mathlib.Core.Path.{_≡_, refl, sym, _∙_, ap}
-use mathlib.Core.Bool.{true, false}
+use mathlib.Core.Bool.{true}
 use mathlib.Core.List.{List, []}
 use mathlib.Core.Option.{Option, none, some}
 use Prim.Native.Nat.{ℕ, _*_, _≤_}
@@ -13,7 +13,6 @@ use Rattle.rules.specs.Table.{Table, Plan, jobCount, arcCount, sectionCount}
 use Rattle.rules.specs.Refusals.{Fault, faultOf, Outcome, refused, gives, andThen, unless, checkFault, planOf, check, planInBounds}
 use Rattle.rules.specs.Text as rules
 use Rattle.rules.specs.Times.{timesTo}
-use Rattle.rules.specs.Tick.{chosen}
 use Rattle.rules.specs.Run.{endState}
 use Rattle.rules.specs.Output.{report, refusalLines, printed, answer}
 use Rattle.rules.specs.declared.Refusal.{Refusal}
@@ -22,19 +21,18 @@ use Rattle.laws.specs.Text.{counts-is, read-is}
 use Rattle.laws.specs.Times.{times-length}
 use Rattle.laws.specs.Refusals.{accepted-facts}
 use Rattle.laws.specs.Accepted.{plan-in-bounds}
-use Rattle.run_laws.specs.States.{Good, good, answered-is}
-use Rattle.run_laws.specs.Theorems.{end-reached}
 use Rattle.text.specs.Promises.{readInto, counted, afterwards, Reads, rowsOf, Rows}
 use Rattle.text.specs.declared.Reading.the-variants.{Refused, Counts}
 use Rattle.plan.specs.Promise.{planned, Plans}
 use Rattle.plan.specs.Promise as planning
 use Rattle.plan.specs.declared.Planned.{Planned}
 use Rattle.plan.specs.declared.Planned.the-variants.{Times}
+use Rattle.dispatch.specs.Theorems.{end-good}
 use Rattle.dispatch.specs.Promise.{Lists, Reach, faultFor, Runs, start-ready, refused-kept, holding}
-use Rattle.dispatch.specs.Lists.{plan, timed, state}
+use Rattle.rules.specs.Lists.{plan, timed, state}
 use Rattle.dispatch.specs.declared.Reached.{Reached}
 use Rattle.dispatch.specs.declared.Reached.the-variants.{Tick}
-use Rattle.answer.specs.Page.{report-same}
+use Rattle.page.specs.Page.{report-same}
 
 -- ---- reading
 
@@ -155,12 +153,6 @@ module _ (t : Table) (lent left : List ℕ) (long : length lent ≡ 128) where
           )
 
 -- ---- running
-
--- the lists of the end state have a place for each job
-end-good : (p : Plan) → planInBounds p ≡ true → (k : ℕ) × Good p k (endState p)
-end-good p b =
-    let w = end-reached p b in
-    (w .0, rw (w .2, answered-is p (w .0)) (good p (chosen p) (λ k. false) (w .0)))
 
 module _ (p : Plan) (l l′ : Lists) (b : planInBounds p ≡ true) (few : jobCount (p .table) ≤ 64)
     (e : length (l .executed) ≡ 64) (m : length (l .marks) ≡ 64) (f : length (l .finish) ≡ 64) where

@@ -1,6 +1,4 @@
 // The whole program as one function: a table's text in, the lines of its run out.
-mod page;
-
 use dispatch::Reached;
 use plan::Planned;
 use rules::Refusal;
@@ -15,9 +13,8 @@ ghost use Rattle.rules.specs.Refusals.{check, planInBounds};
 ghost use Rattle.rules.specs.Run.{endState};
 ghost use Rattle.rules.specs.Output as rules;
 ghost use Rattle.rules.specs.Output.{report, printed};
-ghost use Rattle.rules.specs.Lists.{table};
+ghost use Rattle.rules.specs.Lists.{table, plan};
 ghost use Rattle.text.specs.Put.{Over};
-ghost use Rattle.dispatch.specs.Lists.{plan};
 ghost use Rattle.answer.specs.Promise.{Prints};
 
 // The most bytes that are printed: 64 jobs, and ten digits for each number.

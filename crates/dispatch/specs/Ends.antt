@@ -2,20 +2,22 @@
 use mathlib.Core.Path.{_≡_, refl, sym, _∙_, ap}
 use mathlib.Core.Bool.{Bool, true, false, cond}
 use mathlib.Core.List.{List, [], _∷_, _++_}
-use Prim.Native.Nat.{ℕ, zero, suc, _+_, _-_, _≤_, _<_, max}
+use Prim.Native.Nat.{ℕ, zero, suc, _+_, _*_, _/_, _-_, _≤_, _<_, max}
 use native.Mathlib.Numerals.{add-one}
 use native.Mathlib.Omega.{arith}
 use lib.Dec.{ltb}
 use lib.IntN.{pos, negsuc, subℕ, _-ℤ_}
 use lib.Signed.{mag}
-use lib.ListN.{length, set, take, drop, replicate, length-set, take-append-drop}
+use lib.ListN.{length, getD, set, take, drop, replicate, length-set, take-append-drop}
 use lib.Seq.{take-suc-set, drop-set-lt, drop-drop}
 use borrow.Author.Tests.{le-ltb}
 use Rattle.rules.specs.Rows.{largest}
 use Rattle.rules.specs.Table.{Plan, State}
 use Rattle.rules.specs.Refusals.{allFinished}
 use Rattle.rules.specs.Run.{answered}
-use Rattle.dispatch.specs.Lists.{Fit}
+use Rattle.laws.specs.Events.{answered-on}
+use Rattle.ticks.specs.Lists.{Fit}
+use Rattle.events.specs.Events.{Skipped}
 
 -- ---- a front of zeros
 
@@ -69,6 +71,15 @@ difference-small m a b h g = go (ltb a b)
     go true = omega arith
     go false = omega arith
 
+-- ---- bounds of a run
+
+-- jobs are few, and their releases and costs within bounds
+pub record Bounded (jobs times : List ℕ) : Type 0 where
+  pub few : length jobs / 3 ≤ 64
+  pub pairs : 2 * (length jobs / 3) ≤ length times
+  pub releases : (j : ℕ) → j < length jobs / 3 → getD times (2 * j) 0 ≤ 1000000
+  pub costs : (j : ℕ) → j < length jobs / 3 → getD jobs (3 * j + 1) 0 ≤ 100000
+
 -- ---- a run and what is left of it
 
 -- lists of the same lengths fit as well
@@ -106,3 +117,15 @@ module _ {p : Plan} {st : State} {end : ℕ} {r : State} (g : Going p st end r) 
 
 pub run-begins : (p : Plan) (st : State) (end : ℕ) → st .tick ≡ 0 → Going p st end (answered p end st)
 run-begins p st end e = let z : end - st .tick ≡ end = omega arith in record { soon = omega arith; left = rw z }
+
+pub run-skips : {p : Plan} {st : State} {end : ℕ} {r : State} → Going p st end r → (st′ : State) → allFinished p st ≡ false
+    → Skipped p st end st′ → Going p st′ end r
+run-skips {p} {st} {end} g st′ f s =
+    let z : end - st .tick ≡ s .ticks + (end - st′ .tick) = omega (arith, s .soon, s .time) in
+    record {
+      soon = omega (arith, s .soon, s .time);
+      left =
+          ap (answered p (end - st′ .tick)) (s .becomes)
+          ∙ sym (answered-on p (end - st′ .tick) (s .ticks) st (s .unended f))
+          ∙ (rw z at (g .left));
+    }

@@ -15,7 +15,9 @@ use Rattle.rules.specs.Refusals.{fault, firstOf, demand, accepted, countFaults,
 use Rattle.laws.specs.Tests.{Says, bool-says, eq-says, le-says, lt-says, says-map, says-and, yes-says, no-says, says-yes}
 use Rattle.laws.specs.Rows.{all-at, all-says}
 use Rattle.laws.specs.Refusals.{all-none, demand-none, bounds-rows}
-use Rattle.dispatch.specs.Lists.{plan, timed, state, Fit, Bounded}
+use Rattle.rules.specs.Lists.{plan, timed, state}
+use Rattle.ticks.specs.Lists.{Fit}
+use Rattle.dispatch.specs.Ends.{Bounded}
 
 -- A plan and a state of it are within their bounds.
 unfoldable pub inBounds : Plan → State → Bool

@@ -1,8 +1,5 @@
-pub mod Lists
-pub mod Choice
-pub mod Marks
+-- Laws for the start and the end of a run, what was judged, the promises and the theorems.
 pub mod Ends
-pub mod Events
 pub mod Judged
 pub mod Promise
 pub mod Theorems

@@ -17,7 +17,7 @@ use Rattle.rules.specs.Refusals.{Fault, fault, faultOf, Outcome, refused, gives
 use Rattle.rules.specs.Run.{start, answered, allEndBy, endState, lateness}
 use Rattle.rules.specs.Tick.{chosen, tick}
 use Rattle.rules.specs.declared.Refusal.{Refusal}
-use Rattle.dispatch.specs.Lists.{Ticked}
+use Rattle.ticks.specs.Lists.{Ticked}
 use Rattle.dispatch.specs.Judged.{inBounds}
 use Rattle.dispatch.specs.declared.Ran.{Ran}
 use Rattle.dispatch.specs.declared.Ran.the-variants.{Job, Idle, Refused}

@@ -14,9 +14,10 @@ use Rattle.rules.specs.Tick.{chosen, ends, endsStale, markFor, advance, move, t
 use Rattle.rules.specs.Run.{afterReports, allEndBy, endState}
 use Rattle.rules.specs.declared.Refusal.{Refusal}
 use Rattle.laws.specs.Answers.{fault-settles}
+use Rattle.run_laws.specs.States.{Good, good, answered-is}
 use Rattle.run_laws.specs.Theorems.{end-reached}
 use Rattle.laws.specs.Chosen.{chosen-left}
-use Rattle.dispatch.specs.Lists.{state}
+use Rattle.rules.specs.Lists.{state}
 use Rattle.dispatch.specs.Judged.{inBounds, JobStateIn, StateIn, state-in, in-state, step-good}
 use Rattle.dispatch.specs.Promise.{Result, said, Steps, Lists, Reach, told, Starts, Runs, asked, Lateness}
 use Rattle.dispatch.specs.declared.Ran.{Ran}
@@ -95,13 +96,27 @@ lateness-settled p st j r r′ x y = asked-one r r′ (x .is ∙ sym (y .is))
 
 -- ---- a run is single ticks, to the end
 
--- The end state of a plan within its bounds is that of as many ticks, every report answered, as its own tick says, and every
--- job has finished in it.
+-- the end state is one that a run reaches, and so its lists have a place for each job
+pub end-good : (p : Plan) → planInBounds p ≡ true → (k : ℕ) × Good p k (endState p)
+end-good p b =
+    let w = end-reached p b in
+    (w .0, rw (w .2, answered-is p (w .0)) (good p (chosen p) (λ k. false) (w .0)))
+
+-- The end state of a plan within its bounds is that of as many ticks, every report answered, as its own tick says. Every job has
+-- finished in it, and not every job a tick before.
 pub run-is-ticks : (p : Plan) → planInBounds p ≡ true
-    → (n : ℕ) × (n ≤ allEndBy p) × (endState p ≡ afterReports p (replicate n false)) × (allFinished p (endState p) ≡ true)
+    → (endState p .tick ≤ allEndBy p)
+    × (endState p ≡ afterReports p (replicate (endState p .tick) false))
+    × (allFinished p (endState p) ≡ true)
+    × ((m : ℕ) → m < endState p .tick → allFinished p (afterReports p (replicate m false)) ≡ false)
 run-is-ticks p b =
     let w = end-reached p b in
-    (w .0, w .1, w .2, rw (w .2) (w .3))
+    let t : endState p .tick ≡ w .0 = rw (w .2, answered-is p (w .0)) (good p (chosen p) (λ k. false) (w .0) .tick-is) in (
+      omega (arith, w .1),
+      w .2 ∙ ap (λ k. afterReports p (replicate k false)) (sym t),
+      rw (w .2) (w .3),
+      λ m h. w .4 m (omega arith),
+    )
 
 -- ---- a tick
 

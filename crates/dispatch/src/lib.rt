@@ -1,10 +1,8 @@
 // One tick, a whole run, lateness.
-mod choice;
 mod ends;
-mod events;
-mod tick;
+mod state;
 
-use crate::choice::Found;
+use choice::Found;
 use rules::Refusal;
 ghost use mathlib.Core.Path.{_≡_};
 ghost use mathlib.Core.List.{[]};
@@ -12,7 +10,9 @@ ghost use Prim.Native.Nat.{_+_, _*_, _≤_, _<_};
 ghost use lib.ListN.{length, getD};
 ghost use Rattle.rules.specs.Refusals.{stepFault, gives};
 ghost use Rattle.rules.specs.Run.{answered, allEndBy};
-ghost use Rattle.dispatch.specs.Lists.{plan, timed, state, Fit, Bounded};
+ghost use Rattle.rules.specs.Lists.{plan, timed, state};
+ghost use Rattle.ticks.specs.Lists.{Fit};
+ghost use Rattle.dispatch.specs.Ends.{Bounded};
 ghost use Rattle.dispatch.specs.Judged.{inBounds};
 ghost use Rattle.dispatch.specs.Promise.{asFault, Steps, lists, startFault, Starts, Runs, Lateness, asked, latenessIn};
 
@@ -52,7 +52,7 @@ fn in_bounds(
     if !plan::plan_in_bounds(jobs, arcs, sections, times) {
         return false;
     }
-    tick::state_in_bounds(jobs, tick, executed, marks, finish)
+    state::state_in_bounds(jobs, tick, executed, marks, finish)
 }
 
 // 12 for a plan or a state out of bounds, then 13 where every job has finished.
@@ -75,7 +75,7 @@ fn judge_step(
     if 10000000 <= tick {
         return Judgement::Wrong(Refusal::Bounds);
     }
-    if tick::all_finished(jobs, executed) {
+    if state::all_finished(jobs, executed) {
         return Judgement::Wrong(Refusal::Finished);
     }
     Judgement::Ready
@@ -104,7 +104,7 @@ pub fn step(
             ran: Ran::Refused(refusal),
         };
     }
-    let found = tick::one_tick(
+    let found = ticks::one_tick(
         jobs,
         arcs,
         sections,
@@ -213,7 +213,7 @@ fn run_on(
     let end = ends::all_end_by(jobs, times);
     let mut tick = 0;
     while tick < end {
-        if tick::all_finished(jobs, executed) {
+        if state::all_finished(jobs, executed) {
             return tick;
         }
         tick = events::skip(

@@ -89,6 +89,7 @@ unfoldable pub linesOf : List ℕ → List (List ℕ)
 linesOf [] = []
 linesOf (b ∷ bs) = cond (eqb b lf) ((b ∷ []) ∷ linesOf bs) (attach b (linesOf bs))
 
+-- the lines one after the other
 abbrev joined : List (List ℕ) → List ℕ
 joined [] = []
 joined (l ∷ ls) = l ++ joined ls
@@ -308,6 +309,7 @@ wrong-stays k t w u e s = by (lineValue (key k) u) refl
         let z : _≡_ {A = ℕ} 0 1 = cc in
         absurd (omega arith)
 
+-- n values, all 0
 abbrev zeros : ℕ → List ℕ
 zeros n = replicate n 0
 
@@ -318,6 +320,7 @@ zeros-words n = record { small = λ i l. omega (arith, getD-replicate {A = ℕ} 
 abbrev BeginsValues : Part → ℕ → ℕ → List ℕ → Type 0
 BeginsValues b n i front = (vs : List ℕ) × (more : List ℕ) × (length vs ≡ n) × Words vs × (valueLines b i vs ≡ front ++ more)
 
+-- the lines of n values are refused so
 abbrev RefusesValues : Part → ℕ → ℕ → ℕ → Fault → List ℕ → Type 0
 RefusesValues b n i at f u = readValues b n i at u ≡ refused f
 
@@ -361,6 +364,7 @@ values-stop b (suc n) i at t f q =
 abbrev BeginsPart : Part → List ℕ → Type 0
 BeginsPart b front = (vs : List ℕ) × (more : List ℕ) × Words vs × Counted b vs × (partText b vs ≡ front ++ more)
 
+-- a part that starts so is refused
 abbrev RefusesPart : Part → ℕ → Fault → List ℕ → Type 0
 RefusesPart b at f u = readPart b at u ≡ refused f
 
@@ -421,6 +425,7 @@ part-stop b s at t f q = by (lineValue (key (b .head)) t) refl (sym (part-read b
 abbrev BeginsText : List ℕ → Type 0
 BeginsText front = (t : Table) × (more : List ℕ) × Right t × (textOf t ≡ front ++ more)
 
+-- the text is refused so
 abbrev RefusesText : Fault → List ℕ → Type 0
 RefusesText f u = read u ≡ refused f
 

@@ -10,7 +10,7 @@ use Rattle.plan.specs.Promise.{Plans}
 use Rattle.plan.specs.Theorems.{plan-settled}
 use Rattle.density.specs.Promise as density
 use Rattle.density.specs.Theorems.{density-settled}
-use Rattle.dispatch.specs.Lists.{state}
+use Rattle.rules.specs.Lists.{state}
 use Rattle.dispatch.specs.Promise.{Lists, Steps, Starts, Runs, Lateness}
 use Rattle.dispatch.specs.Theorems.{step-settled, start-settled, run-settled, lateness-settled}
 use Rattle.answer.specs.Promise.{Prints, answer-settled}

@@ -2,7 +2,7 @@
 use mathlib.Core.Path.{sym}
 use native.Mathlib.Omega.{arith}
 use lib.Seq.{length-take-le}
-use Rattle.answer.specs.Page.{front-of}
+use Rattle.page.specs.Page.{front-of}
 use Rattle.answer.specs.Promise.{prints-short, prints-whole}
 use borrow.Author.Needs.{needs}
 use Rattle.answer.proofs.answer.Statement.{statement}

@@ -7,7 +7,7 @@ use lib.ListN.{length}
 use lib.Seq.{length-take-le}
 use Rattle.rules.specs.Table.{Plan}
 use Rattle.laws.specs.Refusals.{bounds-rows}
-use Rattle.dispatch.specs.Lists.{plan}
+use Rattle.rules.specs.Lists.{plan}
 use Rattle.answer.specs.Stages.{never-refused, was-run, end-printed}
 use borrow.Author.Needs.{needs}
 use Rattle.answer.proofs.print_plan.Statement.{statement}

@@ -1,7 +1,7 @@
 -- The plan first, then the state.
 use Rattle.laws.specs.Refusals.{bounds-rows}
 use Rattle.dispatch.specs.Judged.{bounds-plan, bounds-state}
-use Rattle.dispatch.specs.Lists.{plan}
+use Rattle.rules.specs.Lists.{plan}
 use Rattle.rules.specs.Refusals.{planInBounds}
 use mathlib.Core.Path.{_≡_, sym, _∙_}
 use mathlib.Core.Bool.{true}

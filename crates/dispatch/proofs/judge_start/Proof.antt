@@ -1,6 +1,6 @@
 -- 12, then room for each list, else nothing.
 use Rattle.dispatch.specs.Promise.{start-unfit, short-executed, short-marks, short-finish, start-ready}
-use Rattle.dispatch.specs.Lists.{plan}
+use Rattle.rules.specs.Lists.{plan}
 use Rattle.rules.specs.Refusals.{planInBounds}
 use mathlib.Core.Path.{_≡_, sym, _∙_}
 use mathlib.Core.Bool.{true}

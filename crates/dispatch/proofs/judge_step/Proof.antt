@@ -1,6 +1,6 @@
 -- 12 by bounds or by the last tick, then 13, else nothing.
 use Rattle.dispatch.specs.Judged.{inBounds, unfit, too-late, over, ready, fit}
-use Rattle.dispatch.specs.Lists.{plan, state}
+use Rattle.rules.specs.Lists.{plan, state}
 use Rattle.rules.specs.Refusals.{allFinished}
 use mathlib.Core.Path.{_≡_, sym, _∙_}
 use mathlib.Core.Bool.{true}

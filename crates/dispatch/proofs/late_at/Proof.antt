@@ -3,11 +3,10 @@ use Rattle.dispatch.specs.Ends.{difference-small}
 use mir.Facts.{toZ-ofZ}
 use mir.Val.{SFits}
 use mir.Syntax.{w32}
-use Prim.Native.Nat.{_^_}
 use Rattle.dispatch.specs.Promise.{not-finished, ended-by}
 use Rattle.rules.specs.Refusals.{gives}
 use mathlib.Core.Path.{_∙_, ap}
-use Prim.Native.Nat.{_+_, _*_}
+use Prim.Native.Nat.{_+_, _*_, _^_}
 use native.Mathlib.Omega.{arith}
 use lib.ListN.{getD}
 use borrow.Author.Needs.{needs}

@@ -1,7 +1,8 @@
 -- 12 by bounds or by the job, else what `late_at` says.
 use Rattle.dispatch.specs.Promise.{latenessIn, late-unfit, late-nobody, late-known}
 use Rattle.dispatch.specs.Judged.{inBounds, both, state-in, fit, deadline-in}
-use Rattle.dispatch.specs.Lists.{plan, state, Fit}
+use Rattle.rules.specs.Lists.{plan, state}
+use Rattle.ticks.specs.Lists.{Fit}
 use mathlib.Core.Path.{_≡_, sym, _∙_}
 use mathlib.Core.Bool.{true}
 use native.Mathlib.Omega.{arith}

@@ -3,7 +3,7 @@ use lib.Seq.{length-take-le}
 use Rattle.dispatch.specs.declared.Reached.{Reached}
 use Rattle.dispatch.specs.Promise.{Lists, lists, holding, faultFor, reachFor, told, start-room, refused-kept, reached-holds, reach-refused, run-holds}
 use Rattle.dispatch.specs.Judged.{plan-fit, bounded}
-use Rattle.dispatch.specs.Lists.{plan}
+use Rattle.rules.specs.Lists.{plan}
 use Rattle.rules.specs.Run.{start, endState, allEndBy}
 use Rattle.rules.specs.Refusals.{planInBounds}
 use Rattle.rules.specs.Table.{Plan, jobCount}
@@ -11,7 +11,6 @@ use mathlib.Core.Path.{_≡_, sym, _∙_, ap}
 use mathlib.Core.Bool.{true}
 use mathlib.Core.Option.{none}
 use Prim.Native.Nat.{_≤_}
-use native.Mathlib.Omega.{arith}
 use lib.ListN.{length}
 use borrow.Author.Needs.{needs}
 use Rattle.dispatch.proofs.run.Statement.{statement}

@@ -1,7 +1,7 @@
 -- What is left of the run comes to what the whole run comes to.
-use Rattle.dispatch.specs.Ends.{Going, fit-same, run-begins, run-over, run-stops}
-use Rattle.dispatch.specs.Events.{run-skips}
-use Rattle.dispatch.specs.Lists.{plan, state, Fit}
+use Rattle.dispatch.specs.Ends.{Going, fit-same, run-begins, run-over, run-stops, run-skips}
+use Rattle.rules.specs.Lists.{plan, state}
+use Rattle.ticks.specs.Lists.{Fit}
 use Rattle.rules.specs.Run.{answered}
 use Rattle.rules.specs.Refusals.{allFinished}
 use mathlib.Core.Path.{refl, sym, _∙_}

@@ -1,7 +1,7 @@
 -- A refusal writes nothing; else each front is zeros.
 use Rattle.rules.specs.Run.{start}
 use Rattle.dispatch.specs.Promise.{asFault, Lists, lists, faultFor, start-room, reach-refused, reach-holds, start-holds}
-use Rattle.dispatch.specs.Lists.{plan}
+use Rattle.rules.specs.Lists.{plan}
 use Rattle.rules.specs.Refusals.{planInBounds}
 use Rattle.rules.specs.Table.{Plan, jobCount}
 use mathlib.Core.Path.{_≡_, sym, _∙_, ap}

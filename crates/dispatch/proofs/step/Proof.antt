@@ -1,7 +1,9 @@
 -- A refusal gives everything back; else one tick, and who ran.
 use Rattle.dispatch.specs.Promise.{asFault, step-refused, step-idle, step-ran}
 use Rattle.dispatch.specs.Judged.{step-fit}
-use Rattle.dispatch.specs.Lists.{plan, state, asOption, within-at, Fit}
+use Rattle.rules.specs.Lists.{plan, state}
+use Rattle.choice.specs.Lists.{asOption, within-at}
+use Rattle.ticks.specs.Lists.{Fit}
 use Rattle.rules.specs.Refusals.{stepFault}
 use Rattle.rules.specs.Table.{Plan, State}
 use mathlib.Core.Path.{_≡_, sym, _∙_, ap}

@@ -1,6 +1,6 @@
 -- The largest release of the jobs passed.
 use Rattle.dispatch.specs.Ends.{largest-more}
-use Rattle.dispatch.specs.Lists.{timed}
+use Rattle.rules.specs.Lists.{timed}
 use Rattle.rules.specs.Table.{modifiedRelease}
 use Rattle.rules.specs.Rows.{largest}
 use mathlib.Core.List.{[]}

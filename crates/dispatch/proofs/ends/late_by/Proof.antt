@@ -4,9 +4,8 @@ use lib.IntN.{pos, subℕ, _-ℤ_}
 use mir.Facts.{toZ-ofZ}
 use mir.Val.{toZ}
 use mir.Syntax.{w32}
-use Prim.Native.Nat.{_^_}
 use mathlib.Core.Path.{_≡_, _∙_}
-use Prim.Native.Nat.{ℕ, _<_}
+use Prim.Native.Nat.{ℕ, _^_, _<_}
 use native.Mathlib.Omega.{arith}
 use borrow.Author.Tests.{lt-ltb}
 use borrow.Author.Needs.{needs}

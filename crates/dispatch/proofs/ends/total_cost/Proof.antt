@@ -1,5 +1,5 @@
 -- The sum of the costs passed, within its bound.
-use Rattle.dispatch.specs.Lists.{timed}
+use Rattle.rules.specs.Lists.{timed}
 use Rattle.laws.specs.Rows.{sum-more}
 use Rattle.rules.specs.Table.{cost}
 use Rattle.rules.specs.Rows.{sum}

@@ -1,0 +1,19 @@
+-- `is_candidate` tests in the order of the definition.
+use borrow.Author.Tests.{le-leb, lt-leb, le-ltb, lt-ltb}
+use Rattle.choice.proofs.is_candidate.Statement.{statement}
+use Rattle.choice.proofs.is_candidate.Tie as tie
+
+returns : tie.Need-returns
+returns c = rw (lt-leb _ _ (c .if1 .taken))
+
+returns-2 : tie.Need-returns-2
+returns-2 c = rw (le-leb _ _ (c .before .if1 .left), le-ltb _ _ (c .if2 .taken))
+
+returns-3 : tie.Need-returns-3
+returns-3 c = rw (le-leb _ _ (c .before .before .if1 .left), lt-ltb _ _ (c .before .if2 .left), c .if3 .taken)
+
+returns-4 : tie.Need-returns-4
+returns-4 c = rw (le-leb _ _ (c .before .before .if1 .left), lt-ltb _ _ (c .before .if2 .left), c .if3 .left)
+
+pub is-candidate-spec : {M : Type 1} → statement M
+is-candidate-spec = tie.close (tie.spec returns returns-2 returns-3 returns-4)

@@ -1,0 +1,2 @@
+-- Laws for the ticks from one event to the next.
+pub mod Events

@@ -1,0 +1,2 @@
+-- Laws for words and lines on a page.
+pub mod Page
