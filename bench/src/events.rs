@@ -1,13 +1,13 @@
 //! What a run costs: its events, not its ticks.
 
 use crate::desk::{Asked, Desk};
-use crate::inputs::{full, plan_lists_of, plan_of, times, with_cost};
+use crate::inputs::{even, full, plan_lists_of, plan_of, times, with_cost};
 use crate::plain::run::run_by_events;
 use crate::ratios::{at_bounds, plan_of_text, COLD_STORE, P1};
 use crate::timing::{both, Times};
 use fuzz::abi::{Entries, Library};
 use second::random::Random;
-use second::rows::any_accepted;
+use second::rows::{any_accepted, Rows};
 use second::Plan;
 use std::time::Instant;
 
@@ -77,10 +77,8 @@ fn print_at_bounds() {
 }
 
 /// Times a table beside the same with all its times multiplied.
-fn print_multiplied() {
-    println!("\n64 jobs of cost 100, 256 arcs, 128 sections, and all times multiplied");
-    let rows = with_cost(full(), 100);
-    let plan = plan_of(&rows);
+fn print_table_multiplied(rows: &Rows) {
+    let plan = plan_of(rows);
     for factor in [10, 100, 1_000] {
         let multiplied = plan_of(&times(rows.clone(), factor));
         let mut desk = Desk::of_plan(&plan);
@@ -90,6 +88,14 @@ fn print_multiplied() {
         let counts = [&plan, &multiplied].map(decisions);
         println!("  by {factor:>5}  {one:>8.1} us {many:>8.1} us  ratio {ratio:.2}  decisions {counts:?}");
     }
+}
+
+/// Times a table that has decisions for a single tick, which look no further, and one of even times, which has none.
+fn print_multiplied() {
+    println!("\n64 jobs of cost 100, 256 arcs, 128 sections, and all times multiplied");
+    print_table_multiplied(&with_cost(full(), 100));
+    println!("  the same with all times even, so that no decision is for a single tick");
+    print_table_multiplied(&even(with_cost(full(), 100)));
 }
 
 /// Times runs of small tables beside single steps, each of which judges the plan again.

@@ -93,6 +93,18 @@ pub fn times(mut rows: Rows, factor: u32) -> Rows {
     rows
 }
 
+/// Makes all releases, costs, deadlines and sections even, by one less for each that is odd.
+pub fn even(mut rows: Rows) -> Rows {
+    for job in &mut rows.jobs {
+        *job = job.map(|value| value & !1);
+    }
+    for section in &mut rows.sections {
+        section[2] &= !1;
+        section[3] &= !1;
+    }
+    rows
+}
+
 /// Makes a table of the most jobs, arcs and sections that the density test says yes to.
 ///
 /// The relative deadlines are divisors of one number, and arcs lead from shorter to longer ones
