@@ -73,6 +73,7 @@ pub struct ZubVerdict {
     pub failing: u32,
 }
 
+// What `read` answers.
 pub fn counts_of(reading: Reading) -> ZubCounts
     ensures { λ r. ⌜ r ≡ countsOf reading ⌝ }
 {
@@ -98,6 +99,7 @@ pub fn counts_of(reading: Reading) -> ZubCounts
     }
 }
 
+// What `write` and `answer` answer.
 pub fn length_of(writing: Writing) -> ZubLength
     ensures { λ r. ⌜ r ≡ lengthOf writing ⌝ }
 {
@@ -115,6 +117,7 @@ pub fn length_of(writing: Writing) -> ZubLength
     }
 }
 
+// What `plan` answers.
 pub fn count_of(planned: Planned) -> ZubCount
     ensures { λ r. ⌜ r ≡ countOf planned ⌝ }
 {
@@ -132,6 +135,7 @@ pub fn count_of(planned: Planned) -> ZubCount
     }
 }
 
+// What `start` and `run` answer.
 pub fn tick_of(reached: Reached) -> ZubTick
     ensures { λ r. ⌜ r ≡ tickOf reached ⌝ }
 {
@@ -149,6 +153,7 @@ pub fn tick_of(reached: Reached) -> ZubTick
     }
 }
 
+// What `step` answers. Where it is refused, the tick is the one handed in.
 pub fn stepped_of(stepped: Stepped) -> ZubStepped
     ensures { λ r. ⌜ r ≡ steppedOf stepped ⌝ }
 {
@@ -179,6 +184,7 @@ pub fn stepped_of(stepped: Stepped) -> ZubStepped
     }
 }
 
+// What `lateness` answers.
 pub fn late_of(late: Late) -> ZubLate
     ensures { λ r. ⌜ r ≡ lateOf late ⌝ }
 {
@@ -204,6 +210,7 @@ pub fn late_of(late: Late) -> ZubLate
     }
 }
 
+// What the density test answers.
 pub fn verdict_of(verdict: Verdict) -> ZubVerdict
     ensures { λ r. ⌜ r ≡ verdictOf verdict ⌝ }
 {
