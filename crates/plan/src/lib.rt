@@ -57,8 +57,7 @@ fn all_times_right(jobs: &[u32], times: &[u32]) -> bool
 pub fn plan_in_bounds(jobs: &[u32], arcs: &[u32], sections: &[u32], times: &[u32]) -> bool
     ensures { λ r. ⌜ r ≡ planInBounds (plan (now (jobs .entry)) (now (arcs .entry)) (now (sections .entry)) (now (times .entry))) ⌝ }
 {
-    let values = rows::judge_values(jobs, arcs, sections);
-    if let Judged::Wrong(_) = values {
+    if !rows::values_right(jobs, arcs, sections) {
         return false;
     }
     if times.len() != 2 * (jobs.len() / 3) {

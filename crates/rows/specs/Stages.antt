@@ -3,12 +3,13 @@ use mathlib.Core.Path.{_≡_, refl, sym, _∙_, ap}
 use mathlib.Core.Bool.{Bool, true, false, not, _&&_, _||_}
 use mathlib.Core.List.{List, [], _∷_, _++_, append-assoc}
 use mathlib.Core.Option.{Option, none, some}
-use Prim.Native.Nat.{ℕ, _/_, _%_, _≤_, _<_}
+use Prim.Native.Nat.{ℕ, _+_, _/_, _%_, _≤_, _<_}
+use native.Mathlib.Numerals.{add-one}
 use native.Mathlib.Omega.{arith}
 use lib.ListN.{length}
 use lib.Dec.{ltb, leb, eqb}
 use borrow.Author.Tests.{le-ltb, le-leb, lt-leb, ne-eqb}
-use Rattle.rules.specs.Rows.{any, lowest}
+use Rattle.rules.specs.Rows.{any, orElse, lowest}
 use Rattle.rules.specs.Table.{
   Table,
   latest,
@@ -19,8 +20,6 @@ use Rattle.rules.specs.Table.{
   cost,
   deadline,
   arcCount,
-  before,
-  after,
   sectionCount,
   owner,
   resource,
@@ -33,6 +32,7 @@ use Rattle.rules.specs.Refusals.{
   firstOf,
   demand,
   atRow,
+  accepted,
   countFaults,
   rowFaults,
   jobOut,
@@ -87,10 +87,6 @@ pub job-last : (t : Table) (j : ℕ) → release t j ≤ latest → 1 ≤ cost t
 unfolding jobOut
 job-last t j p q r = simp (le-ltb _ _ p, ne-eqb (cost t j) 0 (omega arith), le-ltb _ _ r)
 
-pub arc-last : (t : Table) (a : ℕ) → before t a < jobCount t → leb (jobCount t) (after t a) ≡ arcOut t a
-unfolding arcOut
-arc-last t a p = simp (lt-leb _ _ p)
-
 pub section-last : (t : Table) (s : ℕ) → owner t s < jobCount t → resource t s < resources → from t s < to t s
     → ltb (cost t (owner t s)) (to t s) ≡ sectionOut t s
 unfolding sectionOut
@@ -135,6 +131,20 @@ at-found number f n i h e below = ap (atRow number) (lowest-is f n (some i) (h, 
 pub at-none : (number : ℕ) (f : ℕ → Bool) (n i : ℕ) → n ≤ i → ((k : ℕ) → k < i → f k ≡ false) → none ≡ atRow number (lowest f n)
 at-none number f n i h below = ap (atRow number) (lowest-is f n none (λ k l. below k (omega arith)))
 
+-- a row more: nothing is found where nothing was before it and it does not break the rule either
+pub none-more : (number : ℕ) (f : ℕ → Bool) (n : ℕ)
+    → accepted (atRow number (lowest f (n + 1))) ≡ (accepted (atRow number (lowest f n)) && not (f n))
+unfolding lowest
+none-more number f n = rw add-one (go (lowest f n) (f n))
+  where
+    go : (found : Option ℕ) (breaks : Bool) → accepted (atRow number (orElse found breaks n)) ≡ (accepted (atRow number found) && not breaks)
+    go (some k) breaks = refl
+    go none true = refl
+    go none false = refl
+
+pub none-end : (number : ℕ) (f : ℕ → Bool) (i n : ℕ) → i ≤ n → n ≤ i → accepted (atRow number (lowest f i)) ≡ accepted (atRow number (lowest f n))
+none-end number f i n p q = let e : i ≡ n = omega arith in rw e
+
 -- where the counts are right no rule has more than 256 rows
 pub few-rows : (t : Table) → firstOf (countFaults t) ≡ none → (rule : Rule) → rowsUnder t rule ≤ 256
 unfolding countFaults
@@ -178,6 +188,18 @@ pub values-are : (t : Table) {c j a s : Option Fault} → firstOf (countFaults t
     → firstOf (c ∷ j ∷ a ∷ s ∷ []) ≡ valuesFault t
 unfolding valuesFault
 values-are t p q r u = (λ i. firstOf (sym p i ∷ sym q i ∷ sym r i ∷ sym u i ∷ [])) ∙ front (countFaults t) (rowFaults t)
+
+-- whether each stage finds nothing makes up whether 2 to 7 find nothing
+pub values-asked : (t : Table) {c : Option Fault} {j a s : Bool} → firstOf (countFaults t) ≡ c
+    → accepted (stage t Job) ≡ j → accepted (stage t Arc) ≡ a → accepted (stage t Section) ≡ s
+    → (accepted c && (j && (a && s))) ≡ accepted (valuesFault t)
+values-asked t {c} p q r u = rw (← q, ← r, ← u) (go c (stage t Job) (stage t Arc) (stage t Section) ∙ ap accepted (values-are t p refl refl refl))
+  where
+    go : (c j a s : Option Fault) → (accepted c && (accepted j && (accepted a && accepted s))) ≡ accepted (firstOf (c ∷ j ∷ a ∷ s ∷ []))
+    go (some f) j a s = refl
+    go none (some f) a s = refl
+    go none none (some f) s = refl
+    go none none none s = ap accepted (last-of s)
 
 pub clashes-are : (t : Table) {v c : Option Fault} → valuesFault t ≡ v → stage t Clash ≡ c → firstOf (v ∷ c ∷ []) ≡ clashesFault t
 unfolding valuesFault clashesFault

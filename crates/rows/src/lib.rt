@@ -4,9 +4,10 @@ ghost use mathlib.Core.Path.{_≡_};
 ghost use mathlib.Core.List.{[]};
 ghost use Prim.Native.Nat.{_+_, _*_, _<_, _≤_};
 ghost use lib.ListN.{length};
-ghost use Rattle.rules.specs.Refusals.{fault, faultOf, firstOf, countFaults, jobOut, arcOut, sectionOut, overlap, within, clash, clashes};
+ghost use Rattle.rules.specs.Refusals.{fault, faultOf, firstOf, accepted, countFaults, jobOut, arcOut, sectionOut, overlap, within, clash, clashes};
 ghost use Rattle.rules.specs.Lists.{table};
 ghost use Rattle.rows.specs.Judged.{faultIn, valuesFault, clashesFault};
+ghost use Rattle.rows.specs.declared.Rule.the-variants.{Job, Arc, Section};
 ghost use Rattle.rows.specs.Stages.{inRows, numberUnder, rowsUnder, broken, stage};
 
 // The latest release or deadline.
@@ -91,10 +92,9 @@ fn arc_out(jobs: &[u32], arcs: &[u32], a: usize) -> bool
     ensures { λ r. ⌜ r ≡ arcOut (table (now (jobs .entry)) (now (arcs .entry)) []) a ⌝ }
 {
     let n = jobs.len() / 3;
-    if wide(arcs[2 * a]) >= n {
-        return true;
-    }
-    wide(arcs[2 * a + 1]) >= n
+    let before_out = wide(arcs[2 * a]) >= n;
+    let after_out = wide(arcs[2 * a + 1]) >= n;
+    before_out | after_out
 }
 
 // 7: a section's job not in the table, its resource over 15, from not below to, or to above the job's cost.
@@ -230,6 +230,67 @@ pub fn judge_values(jobs: &[u32], arcs: &[u32], sections: &[u32]) -> Judged
         return arc;
     }
     lowest_row(jobs, arcs, sections, Rule::Section, sections.len() / 4)
+}
+
+// Whether no job breaks 5.
+fn jobs_right(jobs: &[u32]) -> bool
+    ensures { λ r. ⌜ r ≡ accepted (stage (table (now (jobs .entry)) [] []) Job) ⌝ }
+{
+    let n = jobs.len() / 3;
+    let mut j = 0;
+    while j < n {
+        if job_out(jobs, j) {
+            return false;
+        }
+        j += 1;
+    }
+    true
+}
+
+// Whether no arc breaks 6. It looks at all of them, several at a time, which is quicker than to leave at the first that does.
+fn arcs_right(jobs: &[u32], arcs: &[u32]) -> bool
+    ensures { λ r. ⌜ r ≡ accepted (stage (table (now (jobs .entry)) (now (arcs .entry)) []) Arc) ⌝ }
+{
+    let n = arcs.len() / 2;
+    let mut right = true;
+    let mut a = 0;
+    while a < n {
+        right = right & !arc_out(jobs, arcs, a);
+        a += 1;
+    }
+    right
+}
+
+// Whether no section breaks 7.
+fn sections_right(jobs: &[u32], sections: &[u32]) -> bool
+    ensures { λ r. ⌜ r ≡ accepted (stage (table (now (jobs .entry)) [] (now (sections .entry))) Section) ⌝ }
+{
+    let n = sections.len() / 4;
+    let mut s = 0;
+    while s < n {
+        if section_out(jobs, sections, s) {
+            return false;
+        }
+        s += 1;
+    }
+    true
+}
+
+// Whether 2 to 7 find nothing: for whoever asks at every tick, and not for the number and the place.
+pub fn values_right(jobs: &[u32], arcs: &[u32], sections: &[u32]) -> bool
+    ensures { λ r. ⌜ r ≡ accepted (valuesFault (table (now (jobs .entry)) (now (arcs .entry)) (now (sections .entry)))) ⌝ }
+{
+    let counts = counts_judged(jobs, arcs, sections);
+    if let Judged::Wrong(_) = counts {
+        return false;
+    }
+    if !jobs_right(jobs) {
+        return false;
+    }
+    if !arcs_right(jobs, arcs) {
+        return false;
+    }
+    sections_right(jobs, sections)
 }
 
 // 2 to 8, in that order.
