@@ -8,7 +8,7 @@ use native.Mathlib.Numerals.{add-one}
 use native.Mathlib.Omega.{arith}
 use lib.ListN.{length}
 use lib.Dec.{ltb, leb, eqb}
-use borrow.Author.Tests.{le-ltb, le-leb, lt-leb, ne-eqb}
+use borrow.Author.Tests.{le-ltb, le-leb, lt-leb, eq-eqb, ne-eqb}
 use Rattle.rules.specs.Rows.{any, orElse, lowest}
 use Rattle.rules.specs.Table.{
   Table,
@@ -87,17 +87,24 @@ pub job-last : (t : Table) (j : ℕ) → release t j ≤ latest → 1 ≤ cost t
 unfolding jobOut
 job-last t j p q r = simp (le-ltb _ _ p, ne-eqb (cost t j) 0 (omega arith), le-ltb _ _ r)
 
-pub section-last : (t : Table) (s : ℕ) → owner t s < jobCount t → resource t s < resources → from t s < to t s
-    → ltb (cost t (owner t s)) (to t s) ≡ sectionOut t s
+pub section-last : (t : Table) (s : ℕ) → owner t s < jobCount t
+    → ((leb resources (resource t s) || leb (to t s) (from t s)) || ltb (cost t (owner t s)) (to t s)) ≡ sectionOut t s
 unfolding sectionOut
-section-last t s p q r = simp (lt-leb _ _ p, lt-leb _ _ q, lt-leb _ _ r)
+section-last t s p = rw (lt-leb _ _ p) (go (leb resources (resource t s)) _ _)
+  where
+    go : (a b c : Bool) → ((a || b) || c) ≡ (a || (b || c))
+    go true b c = refl
+    go false b c = refl
 
--- the answers to its tests make up whether two sections clash
-pub clash-are : (t : Table) (k s : ℕ) {job shared resource-same inner outer : Bool}
-    → eqb (owner t k) (owner t s) ≡ job → overlap t k s ≡ shared → eqb (resource t k) (resource t s) ≡ resource-same
-    → within t k s ≡ inner → within t s k ≡ outer → (job && (shared && (resource-same || not (inner || outer)))) ≡ clash t k s
+-- sections of two jobs don't clash; of one job the tests on their ranges and resources tell
+pub clash-apart : (t : Table) (k s : ℕ) → (owner t k ≡ owner t s → ⊥) → false ≡ clash t k s
 unfolding clash
-clash-are t k s p q r u w = rw (← p, ← q, ← r, ← u, ← w)
+clash-apart t k s p = simp (ne-eqb _ _ p)
+
+pub clash-last : (t : Table) (k s : ℕ) → owner t k ≡ owner t s
+    → (overlap t k s && (eqb (resource t k) (resource t s) || not (within t k s || within t s k))) ≡ clash t k s
+unfolding clash
+clash-last t k s p = simp (eq-eqb _ _ p)
 
 pub clashes-yes : (t : Table) (k s : ℕ) → k < s → clash t k s ≡ true → clashes t s ≡ true
 unfolding clashes
