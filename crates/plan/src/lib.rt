@@ -14,7 +14,8 @@ ghost use Rattle.rules.specs.Rows.{all};
 ghost use Rattle.rules.specs.Table.{jobCount};
 ghost use Rattle.rules.specs.Refusals.{planInBounds, timesRight};
 ghost use Rattle.rules.specs.Lists.{table, plan};
-ghost use Rattle.plan.specs.Promise.{Plans};
+ghost use Rattle.plan.specs.Rounds.{Fit, pairsTo};
+ghost use Rattle.plan.specs.Promise.{Puts, Plans};
 
 // Whether a job's modified times lie in 0 to 1,000,000, window at least cost.
 fn times_right(jobs: &[u32], times: &[u32], j: usize) -> bool
@@ -72,6 +73,18 @@ pub enum Planned {
     Times(u32),
 }
 
+// 11, or the times of the n jobs, written to the front of the lent list.
+fn put_times(times: &mut [u32], n: usize, releases: &[u32; 64], tails: &[u32; 64]) -> Planned
+    requires { ⌜ (n ≤ 64) × Fit n (now releases) (now tails) ⌝ }
+    ensures { λ r. ⌜ Puts (pairsTo (now (releases .entry)) (now (tails .entry)) n) (now (times .entry)) r (now (times .exit)) ⌝ }
+{
+    if times.len() < 2 * n {
+        return Planned::Refused(Refusal::Room);
+    }
+    modified::write(times, n, releases, tails);
+    Planned::Times((2 * n) as u32)
+}
+
 // The table check, 2 to 10 in that order, then 11. An accepted table's modified times, release and deadline for each job,
 // are written to the front of `times`; a refusal writes nothing.
 pub fn plan(jobs: &[u32], arcs: &[u32], sections: &[u32], times: &mut [u32]) -> Planned
@@ -87,10 +100,5 @@ pub fn plan(jobs: &[u32], arcs: &[u32], sections: &[u32], times: &mut [u32]) -> 
     if let Judged::Wrong(refusal) = windows {
         return Planned::Refused(refusal);
     }
-    let n = jobs.len() / 3;
-    if times.len() < 2 * n {
-        return Planned::Refused(Refusal::Room);
-    }
-    modified::write(times, n, &releases, &tails);
-    Planned::Times((2 * n) as u32)
+    put_times(times, jobs.len() / 3, &releases, &tails)
 }
