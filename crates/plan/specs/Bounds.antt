@@ -1,7 +1,6 @@
 -- A plan handed in: the code's lists as a plan, and the laws that its judgement cites.
 use mathlib.Core.Path.{_≡_, refl}
 use mathlib.Core.Bool.{Bool, true, false, _&&_}
-use mathlib.Core.Option.{Option, none, some}
 use Prim.Native.Nat.{ℕ, _+_, _*_, _-_, _≤_}
 use native.Mathlib.Omega.{arith}
 use lib.ListN.{length}
@@ -9,7 +8,7 @@ use lib.Dec.{ltb, leb, eqb}
 use borrow.Author.Tests.{le-leb, eq-eqb, ne-eqb, ltb-true, ltb-false}
 use Rattle.rules.specs.Rows.{all}
 use Rattle.rules.specs.Table.{Plan, latest, jobCount, cost, modifiedRelease, modifiedDeadline}
-use Rattle.rules.specs.Refusals.{Fault, accepted, timesRight, planInBounds}
+use Rattle.rules.specs.Refusals.{accepted, timesRight, planInBounds}
 use Rattle.laws.specs.Tests.{le-says, says-agree, no-of}
 use Rattle.laws.specs.Refusals.{TimesIn, times-says}
 use Rattle.rules.specs.Lists.{table}
@@ -39,18 +38,18 @@ module _ (p : Plan) (j : ℕ) where
 
 -- the three parts of the judgement, one after the other
 module _ (p : Plan) where
-  parts : {found : Option Fault} {pairs times : Bool}
-      → valuesFault (p .table) ≡ found → eqb (length (p .times)) (2 * jobCount (p .table)) ≡ pairs
-      → all (timesRight p) (jobCount (p .table)) ≡ times → (accepted found && (pairs && times)) ≡ planInBounds p
+  parts : {values pairs times : Bool}
+      → accepted (valuesFault (p .table)) ≡ values → eqb (length (p .times)) (2 * jobCount (p .table)) ≡ pairs
+      → all (timesRight p) (jobCount (p .table)) ≡ times → (values && (pairs && times)) ≡ planInBounds p
   unfolding planInBounds valuesFault
   parts e q r = rw (← e, ← q, ← r)
 
-  pub bounds-values : {f : Fault} → valuesFault (p .table) ≡ some f → false ≡ planInBounds p
+  pub bounds-values : accepted (valuesFault (p .table)) ≡ false → false ≡ planInBounds p
   bounds-values e = parts e refl refl
 
-  pub bounds-pairs : valuesFault (p .table) ≡ none → (length (p .times) ≡ 2 * jobCount (p .table) → ⊥) → false ≡ planInBounds p
+  pub bounds-pairs : accepted (valuesFault (p .table)) ≡ true → (length (p .times) ≡ 2 * jobCount (p .table) → ⊥) → false ≡ planInBounds p
   bounds-pairs e h = parts e (ne-eqb _ _ h) refl
 
-  pub bounds-times : {times : Bool} → valuesFault (p .table) ≡ none → length (p .times) ≡ 2 * jobCount (p .table)
+  pub bounds-times : {times : Bool} → accepted (valuesFault (p .table)) ≡ true → length (p .times) ≡ 2 * jobCount (p .table)
       → all (timesRight p) (jobCount (p .table)) ≡ times → times ≡ planInBounds p
   bounds-times e h r = parts e (eq-eqb _ _ h) r

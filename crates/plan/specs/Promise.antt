@@ -1,8 +1,9 @@
 -- The promise of `plan`: its answer and the lent list are what the rules give, for every input.
-use mathlib.Core.Path.{_≡_, sym, _∙_}
+use mathlib.Core.Path.{_≡_, sym, _∙_, ap}
 use mathlib.Core.List.{List, [], _∷_, _++_}
 use mathlib.Core.Option.{Option, none, some}
-use Prim.Native.Nat.{ℕ, _*_, _≤_, _<_}
+use Prim.Native.Nat.{ℕ, _≤_, _<_}
+use native.Mathlib.Omega.{arith}
 use lib.ListN.{length, drop}
 use borrow.Author.Tests.{le-leb, lt-leb}
 use Rattle.rules.specs.Rows.{lowest}
@@ -10,7 +11,6 @@ use Rattle.rules.specs.Table.{Table, jobCount, sectionCount}
 use Rattle.rules.specs.Times.{timesTo}
 use Rattle.rules.specs.Refusals.{
   Fault,
-  fault,
   faultOf,
   Outcome,
   refused,
@@ -30,7 +30,6 @@ use Rattle.rules.specs.Refusals.{
 }
 use Rattle.rules.specs.declared.Refusal.{Refusal}
 use Rattle.rules.specs.declared.Refusal.the-variants.{Room}
-use Rattle.laws.specs.Times.{times-length}
 use Rattle.laws.specs.Refusals.{RowsRight}
 use Rattle.rows.specs.Stages.{front-rows, front-later}
 use Rattle.cycles.specs.Promise.{cyclesFault}
@@ -78,32 +77,27 @@ unfolding cyclesFault
 cycles-rows t e =
     front-rows t (atRow 8 (lowest (clashes t) (sectionCount t)) ∷ atRow 9 (lowest (onCycle t) (jobCount t)) ∷ []) e
 
+-- what is answered and left where `front` is written, if there is room for it
+pub record Puts (front lent : List ℕ) (answer : Planned) (left : List ℕ) : Type 0 where
+  pub answer-is : said answer ≡ counted (unless (room (length front) (length lent)) front)
+  pub left-is : left ≡ written (unless (room (length front) (length lent)) front) lent
+
+pub put-short : (front lent : List ℕ) (n : ℕ) → length front ≡ n → length lent < n → Puts front lent (Refused Room) lent
+put-short front lent n e h =
+    let short = lt-leb (length front) (length lent) (omega (arith, e)) in
+    record { answer-is = rw short; left-is = rw short }
+
+pub put-all : (front lent left : List ℕ) (n : ℕ) → length front ≡ n → n ≤ length lent → left ≡ front ++ drop n lent → Puts front lent (Times n) left
+put-all front lent left n e h w =
+    let roomy = le-leb (length front) (length lent) (omega (arith, e)) in
+    record { answer-is = rw roomy (ap gives (sym e)); left-is = rw roomy (rw e w) }
+
 module _ (t : Table) (lent : List ℕ) where
-  -- the three ways of `planned`
-  refused-is : (f : Fault) → checkFault t ≡ some f → planned t lent ≡ refused f
-  unfolding planned check
-  refused-is f e = rw e
-
-  short-is : checkFault t ≡ none → length lent < 2 * jobCount t → planned t lent ≡ refused (fault 11 0)
-  unfolding planned check planOf
-  short-is e h = rw (e, times-length t (jobCount t), lt-leb _ _ h)
-
-  times-is : checkFault t ≡ none → 2 * jobCount t ≤ length lent → planned t lent ≡ gives (timesTo t (jobCount t))
-  unfolding planned check planOf
-  times-is e h = rw (e, times-length t (jobCount t), le-leb _ _ h)
-
   pub plan-refused : (r : Refusal) → some (faultOf r) ≡ checkFault t → Plans t lent (Refused r) lent
-  plan-refused r e =
-      let p = refused-is (faultOf r) (sym e) in
-      record { answer-is = rw p; left-is = rw p }
+  unfolding planned check
+  plan-refused r e = record { answer-is = rw (← e); left-is = rw (← e) }
 
-  pub plan-short : none ≡ checkFault t → length lent < 2 * jobCount t → Plans t lent (Refused Room) lent
-  plan-short e h =
-      let p = short-is (sym e) h in
-      record { answer-is = rw p; left-is = rw p }
-
-  pub plan-times : (left front : List ℕ) → none ≡ checkFault t → 2 * jobCount t ≤ length lent
-      → left ≡ front ++ drop (2 * jobCount t) lent → front ≡ timesTo t (jobCount t) → Plans t lent (Times (2 * jobCount t)) left
-  plan-times left front e h w f =
-      let p = times-is (sym e) h in
-      record { answer-is = rw (p, times-length t (jobCount t)); left-is = rw (p, times-length t (jobCount t), ← f) w }
+  pub plan-put : (front left : List ℕ) (answer : Planned) → none ≡ checkFault t → front ≡ timesTo t (jobCount t)
+      → Puts front lent answer left → Plans t lent answer left
+  unfolding planned check planOf
+  plan-put front left answer e f h = record { answer-is = rw (← e, ← f) (h .answer-is); left-is = rw (← e, ← f) (h .left-is) }

@@ -271,7 +271,7 @@ module _ (jobs releases tails : List ℕ) where
   unfolding windowFound
   window-none j = at-none 10 (short jobs releases tails) (length jobs / 3) j
 
-pairs-length : (releases tails : List ℕ) (n : ℕ) → length (pairsTo releases tails n) ≡ 2 * n
+pub pairs-length : (releases tails : List ℕ) (n : ℕ) → length (pairsTo releases tails n) ≡ 2 * n
 unfolding pairsTo
 pairs-length releases tails zero = refl
 pairs-length releases tails (suc n) = rw length-append (omega (arith, pairs-length releases tails n))

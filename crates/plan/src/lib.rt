@@ -14,7 +14,8 @@ ghost use Rattle.rules.specs.Rows.{all};
 ghost use Rattle.rules.specs.Table.{jobCount};
 ghost use Rattle.rules.specs.Refusals.{planInBounds, timesRight};
 ghost use Rattle.rules.specs.Lists.{table, plan};
-ghost use Rattle.plan.specs.Promise.{Plans};
+ghost use Rattle.plan.specs.Rounds.{Fit, pairsTo};
+ghost use Rattle.plan.specs.Promise.{Puts, Plans};
 
 // Whether a job's modified times lie in 0 to 1,000,000, window at least cost.
 fn times_right(jobs: &[u32], times: &[u32], j: usize) -> bool
@@ -57,8 +58,7 @@ fn all_times_right(jobs: &[u32], times: &[u32]) -> bool
 pub fn plan_in_bounds(jobs: &[u32], arcs: &[u32], sections: &[u32], times: &[u32]) -> bool
     ensures { λ r. ⌜ r ≡ planInBounds (plan (now (jobs .entry)) (now (arcs .entry)) (now (sections .entry)) (now (times .entry))) ⌝ }
 {
-    let values = rows::judge_values(jobs, arcs, sections);
-    if let Judged::Wrong(_) = values {
+    if !rows::values_right(jobs, arcs, sections) {
         return false;
     }
     if times.len() != 2 * (jobs.len() / 3) {
@@ -71,6 +71,18 @@ pub fn plan_in_bounds(jobs: &[u32], arcs: &[u32], sections: &[u32], times: &[u32
 pub enum Planned {
     Refused(Refusal),
     Times(u32),
+}
+
+// 11, or the times of the n jobs, written to the front of the lent list.
+fn put_times(times: &mut [u32], n: usize, releases: &[u32; 64], tails: &[u32; 64]) -> Planned
+    requires { ⌜ (n ≤ 64) × Fit n (now releases) (now tails) ⌝ }
+    ensures { λ r. ⌜ Puts (pairsTo (now (releases .entry)) (now (tails .entry)) n) (now (times .entry)) r (now (times .exit)) ⌝ }
+{
+    if times.len() < 2 * n {
+        return Planned::Refused(Refusal::Room);
+    }
+    modified::write(times, n, releases, tails);
+    Planned::Times((2 * n) as u32)
 }
 
 // The table check, 2 to 10 in that order, then 11. An accepted table's modified times, release and deadline for each job,
@@ -88,10 +100,5 @@ pub fn plan(jobs: &[u32], arcs: &[u32], sections: &[u32], times: &mut [u32]) -> 
     if let Judged::Wrong(refusal) = windows {
         return Planned::Refused(refusal);
     }
-    let n = jobs.len() / 3;
-    if times.len() < 2 * n {
-        return Planned::Refused(Refusal::Room);
-    }
-    modified::write(times, n, &releases, &tails);
-    Planned::Times((2 * n) as u32)
+    put_times(times, jobs.len() / 3, &releases, &tails)
 }

@@ -3,12 +3,13 @@ use mathlib.Core.Path.{_≡_, refl, sym, _∙_, ap}
 use mathlib.Core.Bool.{Bool, true, false, not, _&&_, _||_}
 use mathlib.Core.List.{List, [], _∷_, _++_, append-assoc}
 use mathlib.Core.Option.{Option, none, some}
-use Prim.Native.Nat.{ℕ, _/_, _%_, _≤_, _<_}
+use Prim.Native.Nat.{ℕ, _+_, _/_, _%_, _≤_, _<_}
+use native.Mathlib.Numerals.{add-one}
 use native.Mathlib.Omega.{arith}
 use lib.ListN.{length}
 use lib.Dec.{ltb, leb, eqb}
-use borrow.Author.Tests.{le-ltb, le-leb, lt-leb, ne-eqb}
-use Rattle.rules.specs.Rows.{any, lowest}
+use borrow.Author.Tests.{le-ltb, le-leb, lt-leb, eq-eqb, ne-eqb}
+use Rattle.rules.specs.Rows.{any, orElse, lowest}
 use Rattle.rules.specs.Table.{
   Table,
   latest,
@@ -19,8 +20,6 @@ use Rattle.rules.specs.Table.{
   cost,
   deadline,
   arcCount,
-  before,
-  after,
   sectionCount,
   owner,
   resource,
@@ -33,6 +32,7 @@ use Rattle.rules.specs.Refusals.{
   firstOf,
   demand,
   atRow,
+  accepted,
   countFaults,
   rowFaults,
   jobOut,
@@ -87,21 +87,24 @@ pub job-last : (t : Table) (j : ℕ) → release t j ≤ latest → 1 ≤ cost t
 unfolding jobOut
 job-last t j p q r = simp (le-ltb _ _ p, ne-eqb (cost t j) 0 (omega arith), le-ltb _ _ r)
 
-pub arc-last : (t : Table) (a : ℕ) → before t a < jobCount t → leb (jobCount t) (after t a) ≡ arcOut t a
-unfolding arcOut
-arc-last t a p = simp (lt-leb _ _ p)
-
-pub section-last : (t : Table) (s : ℕ) → owner t s < jobCount t → resource t s < resources → from t s < to t s
-    → ltb (cost t (owner t s)) (to t s) ≡ sectionOut t s
+pub section-last : (t : Table) (s : ℕ) → owner t s < jobCount t
+    → ((leb resources (resource t s) || leb (to t s) (from t s)) || ltb (cost t (owner t s)) (to t s)) ≡ sectionOut t s
 unfolding sectionOut
-section-last t s p q r = simp (lt-leb _ _ p, lt-leb _ _ q, lt-leb _ _ r)
+section-last t s p = rw (lt-leb _ _ p) (go (leb resources (resource t s)) _ _)
+  where
+    go : (a b c : Bool) → ((a || b) || c) ≡ (a || (b || c))
+    go true b c = refl
+    go false b c = refl
 
--- the answers to its tests make up whether two sections clash
-pub clash-are : (t : Table) (k s : ℕ) {job shared resource-same inner outer : Bool}
-    → eqb (owner t k) (owner t s) ≡ job → overlap t k s ≡ shared → eqb (resource t k) (resource t s) ≡ resource-same
-    → within t k s ≡ inner → within t s k ≡ outer → (job && (shared && (resource-same || not (inner || outer)))) ≡ clash t k s
+-- sections of two jobs don't clash; of one job the tests on their ranges and resources tell
+pub clash-apart : (t : Table) (k s : ℕ) → (owner t k ≡ owner t s → ⊥) → false ≡ clash t k s
 unfolding clash
-clash-are t k s p q r u w = rw (← p, ← q, ← r, ← u, ← w)
+clash-apart t k s p = simp (ne-eqb _ _ p)
+
+pub clash-last : (t : Table) (k s : ℕ) → owner t k ≡ owner t s
+    → (overlap t k s && (eqb (resource t k) (resource t s) || not (within t k s || within t s k))) ≡ clash t k s
+unfolding clash
+clash-last t k s p = simp (eq-eqb _ _ p)
 
 pub clashes-yes : (t : Table) (k s : ℕ) → k < s → clash t k s ≡ true → clashes t s ≡ true
 unfolding clashes
@@ -134,6 +137,20 @@ at-found number f n i h e below = ap (atRow number) (lowest-is f n (some i) (h, 
 
 pub at-none : (number : ℕ) (f : ℕ → Bool) (n i : ℕ) → n ≤ i → ((k : ℕ) → k < i → f k ≡ false) → none ≡ atRow number (lowest f n)
 at-none number f n i h below = ap (atRow number) (lowest-is f n none (λ k l. below k (omega arith)))
+
+-- a row more: nothing is found where nothing was before it and it does not break the rule either
+pub none-more : (number : ℕ) (f : ℕ → Bool) (n : ℕ)
+    → accepted (atRow number (lowest f (n + 1))) ≡ (accepted (atRow number (lowest f n)) && not (f n))
+unfolding lowest
+none-more number f n = rw add-one (go (lowest f n) (f n))
+  where
+    go : (found : Option ℕ) (breaks : Bool) → accepted (atRow number (orElse found breaks n)) ≡ (accepted (atRow number found) && not breaks)
+    go (some k) breaks = refl
+    go none true = refl
+    go none false = refl
+
+pub none-end : (number : ℕ) (f : ℕ → Bool) (i n : ℕ) → i ≤ n → n ≤ i → accepted (atRow number (lowest f i)) ≡ accepted (atRow number (lowest f n))
+none-end number f i n p q = let e : i ≡ n = omega arith in rw e
 
 -- where the counts are right no rule has more than 256 rows
 pub few-rows : (t : Table) → firstOf (countFaults t) ≡ none → (rule : Rule) → rowsUnder t rule ≤ 256
@@ -178,6 +195,18 @@ pub values-are : (t : Table) {c j a s : Option Fault} → firstOf (countFaults t
     → firstOf (c ∷ j ∷ a ∷ s ∷ []) ≡ valuesFault t
 unfolding valuesFault
 values-are t p q r u = (λ i. firstOf (sym p i ∷ sym q i ∷ sym r i ∷ sym u i ∷ [])) ∙ front (countFaults t) (rowFaults t)
+
+-- whether each stage finds nothing makes up whether 2 to 7 find nothing
+pub values-asked : (t : Table) {c : Option Fault} {j a s : Bool} → firstOf (countFaults t) ≡ c
+    → accepted (stage t Job) ≡ j → accepted (stage t Arc) ≡ a → accepted (stage t Section) ≡ s
+    → (accepted c && (j && (a && s))) ≡ accepted (valuesFault t)
+values-asked t {c} p q r u = rw (← q, ← r, ← u) (go c (stage t Job) (stage t Arc) (stage t Section) ∙ ap accepted (values-are t p refl refl refl))
+  where
+    go : (c j a s : Option Fault) → (accepted c && (accepted j && (accepted a && accepted s))) ≡ accepted (firstOf (c ∷ j ∷ a ∷ s ∷ []))
+    go (some f) j a s = refl
+    go none (some f) a s = refl
+    go none none (some f) s = refl
+    go none none none s = ap accepted (last-of s)
 
 pub clashes-are : (t : Table) {v c : Option Fault} → valuesFault t ≡ v → stage t Clash ≡ c → firstOf (v ∷ c ∷ []) ≡ clashesFault t
 unfolding valuesFault clashesFault

@@ -2,11 +2,15 @@
 use rules::Refusal;
 ghost use mathlib.Core.Path.{_≡_};
 ghost use mathlib.Core.List.{[]};
+ghost use mathlib.Core.Bool.{_&&_};
 ghost use Prim.Native.Nat.{_+_, _*_, _<_, _≤_};
 ghost use lib.ListN.{length};
-ghost use Rattle.rules.specs.Refusals.{fault, faultOf, firstOf, countFaults, jobOut, arcOut, sectionOut, overlap, within, clash, clashes};
+ghost use lib.Dec.{ltb, leb};
+ghost use Rattle.rules.specs.Refusals.{fault, faultOf, firstOf, accepted, countFaults, jobOut, arcOut, sectionOut, clash, clashes};
 ghost use Rattle.rules.specs.Lists.{table};
+ghost use Rattle.rules.specs.Table.{from, to};
 ghost use Rattle.rows.specs.Judged.{faultIn, valuesFault, clashesFault};
+ghost use Rattle.rows.specs.declared.Rule.the-variants.{Job, Arc, Section};
 ghost use Rattle.rows.specs.Stages.{inRows, numberUnder, rowsUnder, broken, stage};
 
 // The latest release or deadline.
@@ -91,10 +95,25 @@ fn arc_out(jobs: &[u32], arcs: &[u32], a: usize) -> bool
     ensures { λ r. ⌜ r ≡ arcOut (table (now (jobs .entry)) (now (arcs .entry)) []) a ⌝ }
 {
     let n = jobs.len() / 3;
-    if wide(arcs[2 * a]) >= n {
-        return true;
+    let before_out = wide(arcs[2 * a]) >= n;
+    let after_out = wide(arcs[2 * a + 1]) >= n;
+    before_out | after_out
+}
+
+// The ticks of its job that a section spans, the last one not among them.
+struct Range {
+    from: u32,
+    to: u32,
+}
+
+fn range_of(sections: &[u32], s: usize) -> Range
+    requires { ⌜ 4 * s + 3 < length (now sections) ⌝ }
+    ensures { λ r. ⌜ (r .from ≡ from (table [] [] (now (sections .entry))) s) × (r .to ≡ to (table [] [] (now (sections .entry))) s) ⌝ }
+{
+    Range {
+        from: sections[4 * s + 2],
+        to: sections[4 * s + 3],
     }
-    wide(arcs[2 * a + 1]) >= n
 }
 
 // 7: a section's job not in the table, its resource over 15, from not below to, or to above the job's cost.
@@ -106,36 +125,22 @@ fn section_out(jobs: &[u32], sections: &[u32], s: usize) -> bool
     if owner >= jobs.len() / 3 {
         return true;
     }
-    if sections[4 * s + 1] >= RESOURCES {
-        return true;
-    }
-    let to = sections[4 * s + 3];
-    if sections[4 * s + 2] >= to {
-        return true;
-    }
-    to > jobs[3 * owner + 1]
+    let range = range_of(sections, s);
+    (sections[4 * s + 1] >= RESOURCES) | (range.from >= range.to) | (range.to > jobs[3 * owner + 1])
 }
 
-// Whether two sections share a tick.
-fn overlap(sections: &[u32], k: usize, s: usize) -> bool
-    requires { ⌜ (4 * k + 3 < length (now sections)) × (4 * s + 3 < length (now sections)) ⌝ }
-    ensures { λ r. ⌜ r ≡ overlap (table [] [] (now (sections .entry))) k s ⌝ }
+// Whether two ranges share a tick.
+fn overlap(a: Range, b: Range) -> bool
+    ensures { λ r. ⌜ r ≡ (ltb (a .from) (b .to) && ltb (b .from) (a .to)) ⌝ }
 {
-    if sections[4 * k + 2] >= sections[4 * s + 3] {
-        return false;
-    }
-    sections[4 * s + 2] < sections[4 * k + 3]
+    (a.from < b.to) & (b.from < a.to)
 }
 
-// Whether section k lies within section s.
-fn within(sections: &[u32], k: usize, s: usize) -> bool
-    requires { ⌜ (4 * k + 3 < length (now sections)) × (4 * s + 3 < length (now sections)) ⌝ }
-    ensures { λ r. ⌜ r ≡ within (table [] [] (now (sections .entry))) k s ⌝ }
+// Whether a lies within b.
+fn within(a: Range, b: Range) -> bool
+    ensures { λ r. ⌜ r ≡ (leb (b .from) (a .from) && leb (a .to) (b .to)) ⌝ }
 {
-    if sections[4 * k + 2] < sections[4 * s + 2] {
-        return false;
-    }
-    sections[4 * k + 3] <= sections[4 * s + 3]
+    (b.from <= a.from) & (a.to <= b.to)
 }
 
 // Whether two sections of a job overlap, and are on the same resource or neither lies within the other.
@@ -146,16 +151,10 @@ fn clash(sections: &[u32], k: usize, s: usize) -> bool
     if sections[4 * k] != sections[4 * s] {
         return false;
     }
-    if !overlap(sections, k, s) {
-        return false;
-    }
-    if sections[4 * k + 1] == sections[4 * s + 1] {
-        return true;
-    }
-    if within(sections, k, s) {
-        return false;
-    }
-    !within(sections, s, k)
+    let same = sections[4 * k + 1] == sections[4 * s + 1];
+    let a = range_of(sections, k);
+    let b = range_of(sections, s);
+    overlap(a, b) & (same | !(within(a, b) | within(b, a)))
 }
 
 // 8: a section that clashes with a lower-numbered one of the same job.
@@ -230,6 +229,67 @@ pub fn judge_values(jobs: &[u32], arcs: &[u32], sections: &[u32]) -> Judged
         return arc;
     }
     lowest_row(jobs, arcs, sections, Rule::Section, sections.len() / 4)
+}
+
+// Whether no job breaks 5.
+fn jobs_right(jobs: &[u32]) -> bool
+    ensures { λ r. ⌜ r ≡ accepted (stage (table (now (jobs .entry)) [] []) Job) ⌝ }
+{
+    let n = jobs.len() / 3;
+    let mut j = 0;
+    while j < n {
+        if job_out(jobs, j) {
+            return false;
+        }
+        j += 1;
+    }
+    true
+}
+
+// Whether no arc breaks 6. It looks at all of them, several at a time, which is quicker than to leave at the first that does.
+fn arcs_right(jobs: &[u32], arcs: &[u32]) -> bool
+    ensures { λ r. ⌜ r ≡ accepted (stage (table (now (jobs .entry)) (now (arcs .entry)) []) Arc) ⌝ }
+{
+    let n = arcs.len() / 2;
+    let mut right = true;
+    let mut a = 0;
+    while a < n {
+        right = right & !arc_out(jobs, arcs, a);
+        a += 1;
+    }
+    right
+}
+
+// Whether no section breaks 7.
+fn sections_right(jobs: &[u32], sections: &[u32]) -> bool
+    ensures { λ r. ⌜ r ≡ accepted (stage (table (now (jobs .entry)) [] (now (sections .entry))) Section) ⌝ }
+{
+    let n = sections.len() / 4;
+    let mut s = 0;
+    while s < n {
+        if section_out(jobs, sections, s) {
+            return false;
+        }
+        s += 1;
+    }
+    true
+}
+
+// Whether 2 to 7 find nothing: for whoever asks at every tick, and not for the number and the place.
+pub fn values_right(jobs: &[u32], arcs: &[u32], sections: &[u32]) -> bool
+    ensures { λ r. ⌜ r ≡ accepted (valuesFault (table (now (jobs .entry)) (now (arcs .entry)) (now (sections .entry)))) ⌝ }
+{
+    let counts = counts_judged(jobs, arcs, sections);
+    if let Judged::Wrong(_) = counts {
+        return false;
+    }
+    if !jobs_right(jobs) {
+        return false;
+    }
+    if !arcs_right(jobs, arcs) {
+        return false;
+    }
+    sections_right(jobs, sections)
 }
 
 // 2 to 8, in that order.

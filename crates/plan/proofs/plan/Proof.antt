@@ -1,7 +1,6 @@
 -- The first find is the answer and leaves the list as it was; where nothing is found the rounds' arrays are the modified times.
 use mathlib.Core.Option.{none}
 use mathlib.Core.Path.{refl, sym, _∙_, _≡_}
-use native.Mathlib.Omega.{arith}
 use borrow.Author.Needs.{needs}
 use Rattle.rules.specs.Refusals.{atRow, tooShort, checkFault}
 use Rattle.rules.specs.Rows.{lowest}
@@ -10,7 +9,7 @@ use Rattle.rules.specs.Lists.{table}
 use Rattle.rows.specs.Stages.{told}
 use Rattle.cycles.specs.Promise.{cyclesFault}
 use Rattle.plan.specs.Modified.{jobs-in, arcs-in, window-is, times-are, times-fit}
-use Rattle.plan.specs.Promise.{cycles-rows, check-are, plan-refused, plan-short, plan-times}
+use Rattle.plan.specs.Promise.{cycles-rows, check-are, plan-refused, plan-put}
 use Rattle.plan.specs.Rounds.{JobsIn, ArcsIn, Low, holds-low, windowFound}
 use Rattle.plan.proofs.plan.Statement.{statement}
 use Rattle.plan.proofs.plan.Tie as tie
@@ -97,38 +96,25 @@ returns-2 c = let w = c .before .before .before in
 enum-told-2 : tie.Need-enum-told-2
 enum-told-2 c = search needs
 
-mul-if1 : tie.Need-mul-if1
-mul-if1 c = search needs
-
-returns-3 : tie.Need-returns-3
-returns-3 c = plan-short _ _ (accepted (c .before)) (omega arith)
-
-write-requires : tie.Need-write-requires
-write-requires c κs = let e = c .before .before .before .before in
+put-times-requires : tie.Need-put-times-requires
+put-times-requires c κs = let e = c .before .before .before in
     let w = judged e in
     let r = before-windows w in
     let n = before-rounds r in (
       jobs n .few,
-      omega arith,
       times-fit _ _ (given n .sections) (jobs n) (arcs n) _ _ (r .before .rounds .ensures) (r .rounds2 .ensures)
           (told (w .judge-windows .ensures) (e .enum-told2 .given .1)),
     )
 
-mul-t16 : tie.Need-mul-t16
-mul-t16 c = search needs
-
-cast-t25 : tie.Need-cast-t25
-cast-t25 c = let n = jobs (before-rounds (before-windows (judged (c .before .before .before .before .before .before .before)))) .few in omega arith
-
 same-length : tie.Need-same-length
 same-length c = search needs
 
-returns-4 : tie.Need-returns-4
-returns-4 c = let e = c .before .before .before .before .before .before .before in
+returns-3 : tie.Need-returns-3
+returns-3 c = let e = c .before .before .before .before .before .before in
     let r = before-windows (judged e) in
     let n = before-rounds r in
-    plan-times _ _ _ _ (accepted e) (omega (arith, c .before .before .before .before .before .before .if1 .left)) (c .before .before .write .ensures)
-    (times-are _ _ _ (jobs n) (arcs n) _ _ (r .before .rounds .ensures) (r .rounds2 .ensures))
+    plan-put _ _ _ _ _ (accepted e) (times-are _ _ _ (jobs n) (arcs n) _ _ (r .before .rounds .ensures) (r .rounds2 .ensures))
+    (c .before .before .put-times .ensures)
 
 pub plan-spec : {M : Type 1} → statement M
 plan-spec =
@@ -144,10 +130,6 @@ plan-spec =
     enum-known-windows
     returns-2
     enum-told-2
-    mul-if1
-    returns-3
-    write-requires
-    mul-t16
-    cast-t25
+    put-times-requires
     same-length
-    returns-4)
+    returns-3)

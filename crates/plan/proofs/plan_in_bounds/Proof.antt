@@ -1,31 +1,25 @@
 -- The answers to its three parts make up the judgement.
-use mathlib.Core.Path.{sym}
+use mathlib.Core.Path.{sym, _∙_}
 use native.Mathlib.Omega.{arith}
 use borrow.Author.Needs.{needs}
+use borrow.Author.Tests.{not-true, not-false}
 use Rattle.rules.specs.Refusals.{timesRight}
-use Rattle.rows.specs.Stages.{told}
 use Rattle.plan.specs.Bounds.{bounds-values, bounds-pairs, bounds-times}
 use Rattle.plan.proofs.plan_in_bounds.Statement.{statement}
 use Rattle.plan.proofs.plan_in_bounds.Tie as tie
 
-judge-values-requires : tie.Need-judge-values-requires
-judge-values-requires c κs = search needs
-
-enum-told : tie.Need-enum-told
-enum-told c = search needs
+values-right-requires : tie.Need-values-right-requires
+values-right-requires c κs = search needs
 
 returns : tie.Need-returns
-returns c = bounds-values _ (told (c .before .before .judge-values .ensures) (c .enum-told .given .1))
+returns c = bounds-values _ (sym (c .before .values-right .ensures) ∙ not-true _ (c .if1 .taken))
 
-enum-told-2 : tie.Need-enum-told-2
-enum-told-2 c = search needs
-
-mul-if1 : tie.Need-mul-if1
-mul-if1 c = search needs
+mul-if2 : tie.Need-mul-if2
+mul-if2 c = search needs
 
 returns-2 : tie.Need-returns-2
 returns-2 c = let v = c .before in
-    bounds-pairs _ (told (v .before .before .judge-values .ensures) (v .enum-told2 .given .1)) (omega arith)
+    bounds-pairs _ (sym (v .before .values-right .ensures) ∙ not-false _ (v .if1 .left)) (omega arith)
 
 all-times-right-requires : tie.Need-all-times-right-requires
 all-times-right-requires c κs = search needs
@@ -33,17 +27,15 @@ all-times-right-requires c κs = search needs
 returns-3 : tie.Need-returns-3
 unfolding timesRight
 returns-3 c = let v = c .before .before in
-    bounds-times _ (told (v .before .before .judge-values .ensures) (v .enum-told2 .given .1)) (omega arith) (sym (c .all-times-right .ensures))
+    bounds-times _ (sym (v .before .values-right .ensures) ∙ not-false _ (v .if1 .left)) (omega arith) (sym (c .all-times-right .ensures))
 
 pub plan-in-bounds-spec : {M : Type 1} → statement M
 plan-in-bounds-spec =
     tie.close
     (tie.spec
-    judge-values-requires
-    enum-told
+    values-right-requires
     returns
-    enum-told-2
-    mul-if1
+    mul-if2
     returns-2
     all-times-right-requires
     returns-3)

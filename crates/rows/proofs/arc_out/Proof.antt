@@ -1,10 +1,6 @@
--- The first end that is no job rules the arc out; else the second end decides.
-use mathlib.Core.Path.{sym}
-use native.Mathlib.Omega.{arith}
+-- Both tests as the definition has them.
 use borrow.Author.Needs.{needs}
-use Rattle.laws.specs.Refusals.{arc-says}
-use Rattle.laws.specs.Tests.{yes-of}
-use Rattle.rows.specs.Stages.{arc-last}
+use Rattle.rules.specs.Refusals.{arcOut}
 use Rattle.rows.proofs.arc_out.Statement.{statement}
 use Rattle.rows.proofs.arc_out.Tie as tie
 
@@ -19,9 +15,6 @@ shared-slice-read-wide c = search needs
 
 wide-requires : tie.Need-wide-requires
 wide-requires c κs = search needs
-
-returns : tie.Need-returns
-returns c = sym (yes-of (arc-says _ _) (λ h. omega arith))
 
 mul-wide-3 : tie.Need-mul-wide-3
 mul-wide-3 c = search needs
@@ -38,8 +31,9 @@ shared-slice-read-wide-2 c = search needs
 wide-requires-2 : tie.Need-wide-requires-2
 wide-requires-2 c κs = search needs
 
-returns-2 : tie.Need-returns-2
-returns-2 c = rw (c .wide2 .ensures) (arc-last _ _ (omega arith))
+returns : tie.Need-returns
+unfolding arcOut
+returns c = rw (c .before .before .wide .ensures, c .wide2 .ensures)
 
 pub arc-out-spec : {M : Type 1} → statement M
 arc-out-spec =
@@ -49,10 +43,9 @@ arc-out-spec =
     mul-wide-2
     shared-slice-read-wide
     wide-requires
-    returns
     mul-wide-3
     add-wide
     mul-wide-4
     shared-slice-read-wide-2
     wide-requires-2
-    returns-2)
+    returns)

@@ -1,8 +1,7 @@
--- The answers to the five tests make up whether the two sections clash.
-use mathlib.Core.Path.{sym, _∙_, refl}
+-- Of one job: the tests are those of the definition, on the ranges as they stand in the rows.
 use borrow.Author.Needs.{needs}
-use borrow.Author.Tests.{eq-eqb, ne-eqb, not-true, not-false}
-use Rattle.rows.specs.Stages.{clash-are}
+use Rattle.rules.specs.Refusals.{overlap, within}
+use Rattle.rows.specs.Stages.{clash-apart, clash-last}
 use Rattle.rows.proofs.clash.Statement.{statement}
 use Rattle.rows.proofs.clash.Tie as tie
 
@@ -25,72 +24,61 @@ shared-slice-read-if1-2 : tie.Need-shared-slice-read-if1-2
 shared-slice-read-if1-2 c = search needs
 
 returns : tie.Need-returns
-returns c = clash-are _ _ _ (ne-eqb _ _ (c .if1 .taken)) refl refl refl refl
+returns c = clash-apart _ _ _ (c .if1 .taken)
+
+mul-same : tie.Need-mul-same
+mul-same c = search needs
+
+add-same : tie.Need-add-same
+add-same c = search needs
+
+mul-same-2 : tie.Need-mul-same-2
+mul-same-2 c = search needs
+
+shared-slice-read-same : tie.Need-shared-slice-read-same
+shared-slice-read-same c = search needs
+
+mul-same-3 : tie.Need-mul-same-3
+mul-same-3 c = search needs
+
+add-same-2 : tie.Need-add-same-2
+add-same-2 c = search needs
+
+mul-same-4 : tie.Need-mul-same-4
+mul-same-4 c = search needs
+
+shared-slice-read-same-2 : tie.Need-shared-slice-read-same-2
+shared-slice-read-same-2 c = search needs
+
+range-of-requires : tie.Need-range-of-requires
+range-of-requires c κs = search needs
+
+range-of-requires-2 : tie.Need-range-of-requires-2
+range-of-requires-2 c κs = search needs
 
 overlap-requires : tie.Need-overlap-requires
 overlap-requires c κs = search needs
 
-returns-2 : tie.Need-returns-2
-returns-2 c = let o = c .before in
-    clash-are _ _ _ (eq-eqb _ _ (o .before .if1 .left)) (sym (o .overlap .ensures) ∙ not-true _ (c .if2 .taken)) refl refl refl
-
-mul-if3 : tie.Need-mul-if3
-mul-if3 c = search needs
-
-add-if3 : tie.Need-add-if3
-add-if3 c = search needs
-
-mul-if3-2 : tie.Need-mul-if3-2
-mul-if3-2 c = search needs
-
-shared-slice-read-if3 : tie.Need-shared-slice-read-if3
-shared-slice-read-if3 c = search needs
-
-mul-if3-3 : tie.Need-mul-if3-3
-mul-if3-3 c = search needs
-
-add-if3-2 : tie.Need-add-if3-2
-add-if3-2 c = search needs
-
-mul-if3-4 : tie.Need-mul-if3-4
-mul-if3-4 c = search needs
-
-shared-slice-read-if3-2 : tie.Need-shared-slice-read-if3-2
-shared-slice-read-if3-2 c = search needs
-
-returns-3 : tie.Need-returns-3
-returns-3 c = let o = c .before .before .before .before in
-    clash-are _ _ _
-    (eq-eqb _ _ (o .before .if1 .left))
-    (sym (o .overlap .ensures) ∙ not-false _ (c .before .before .before .if2 .left))
-    (eq-eqb _ _ (c .if3 .taken))
-    refl refl
-
 within-requires : tie.Need-within-requires
 within-requires c κs = search needs
-
-returns-4 : tie.Need-returns-4
-returns-4 c = let w = c .before in
-    let o = w .before .before .before .before .before in
-    clash-are _ _ _
-    (eq-eqb _ _ (o .before .if1 .left))
-    (sym (o .overlap .ensures) ∙ not-false _ (w .before .before .before .before .if2 .left))
-    (ne-eqb _ _ (w .before .if3 .left))
-    (sym (w .within .ensures) ∙ c .if4 .taken)
-    refl
 
 within-requires-2 : tie.Need-within-requires-2
 within-requires-2 c κs = search needs
 
-returns-5 : tie.Need-returns-5
-returns-5 c = let w = c .before .before in
-    let o = w .before .before .before .before .before in
-    clash-are _ _ _
-    (eq-eqb _ _ (o .before .if1 .left))
-    (sym (o .overlap .ensures) ∙ not-false _ (w .before .before .before .before .if2 .left))
-    (ne-eqb _ _ (w .before .if3 .left))
-    (sym (w .within .ensures) ∙ c .before .if4 .left)
-    (sym (c .within2 .ensures))
+returns-2 : tie.Need-returns-2
+unfolding overlap within
+returns-2 c = let b = c .before .before .before in
+    let a = b .before in
+    rw (
+      c .before .before .overlap .ensures,
+      c .before .within .ensures,
+      c .within2 .ensures,
+      a .range-of .ensures .0,
+      a .range-of .ensures .1,
+      b .range-of2 .ensures .0,
+      b .range-of2 .ensures .1,
+    )
+    (clash-last _ _ _ (a .before .before .before .if1 .left))
 
 pub clash-spec : {M : Type 1} → statement M
 clash-spec =
@@ -103,18 +91,17 @@ clash-spec =
     mul-if1-4
     shared-slice-read-if1-2
     returns
+    mul-same
+    add-same
+    mul-same-2
+    shared-slice-read-same
+    mul-same-3
+    add-same-2
+    mul-same-4
+    shared-slice-read-same-2
+    range-of-requires
+    range-of-requires-2
     overlap-requires
-    returns-2
-    mul-if3
-    add-if3
-    mul-if3-2
-    shared-slice-read-if3
-    mul-if3-3
-    add-if3-2
-    mul-if3-4
-    shared-slice-read-if3-2
-    returns-3
     within-requires
-    returns-4
     within-requires-2
-    returns-5)
+    returns-2)
