@@ -1,5 +1,6 @@
 -- Laws for the start and the end of a run.
 use mathlib.Core.Path.{_≡_, refl, sym, _∙_, ap}
+use mathlib.Core.Logic.{_≢_}
 use mathlib.Core.Bool.{Bool, true, false, cond}
 use mathlib.Core.List.{List, [], _∷_, _++_}
 use Prim.Native.Nat.{ℕ, zero, suc, _+_, _*_, _/_, _-_, _≤_, _<_, max}
@@ -17,7 +18,7 @@ use Rattle.rules.specs.Refusals.{allFinished}
 use Rattle.rules.specs.Run.{answered}
 use Rattle.laws.specs.Events.{answered-on}
 use Rattle.ticks.specs.Lists.{Fit}
-use Rattle.events.specs.Events.{Skipped}
+use Rattle.events.specs.Events.{Next, over, later}
 
 -- ---- a front of zeros
 
@@ -104,28 +105,36 @@ pub record Going (p : Plan) (st : State) (end : ℕ) (r : State) : Type 0 where
   pub soon : st .tick ≤ end
   pub left : answered p (end - st .tick) st ≡ r
 
+pub run-begins : (p : Plan) (st : State) (end : ℕ) → st .tick ≡ 0 → Going p st end (answered p end st)
+run-begins p st end e = let z : end - st .tick ≡ end = omega arith in record { soon = omega arith; left = rw z }
+
 module _ {p : Plan} {st : State} {end : ℕ} {r : State} (g : Going p st end r) where
   pub run-over : end ≤ st .tick → st ≡ r
   unfolding answered
   run-over l = let z : end - st .tick ≡ 0 = omega arith in rw z at (g .left)
 
-  pub run-stops : st .tick < end → allFinished p st ≡ true → st ≡ r
+  run-stops : st .tick < end → allFinished p st ≡ true → st ≡ r
   unfolding answered
   run-stops l e =
       let z : end - st .tick ≡ suc (end - suc (st .tick)) = omega arith in
       rw (z, e) at (g .left)
 
-pub run-begins : (p : Plan) (st : State) (end : ℕ) → st .tick ≡ 0 → Going p st end (answered p end st)
-run-begins p st end e = let z : end - st .tick ≡ end = omega arith in record { soon = omega arith; left = rw z }
+  -- no tick was taken, so the run is over
+  pub next-ends : st .tick < end → (st′ : State) → Next p st end st′ → st′ .tick ≡ st .tick → st′ ≡ r
+  next-ends l st′ (over f e) t = e ∙ run-stops l f
+  next-ends l st′ (later s) t = absurd (omega (arith, s .rises, s .time))
 
-pub run-skips : {p : Plan} {st : State} {end : ℕ} {r : State} → Going p st end r → (st′ : State) → allFinished p st ≡ false
-    → Skipped p st end st′ → Going p st′ end r
-run-skips {p} {st} {end} g st′ f s =
-    let z : end - st .tick ≡ s .ticks + (end - st′ .tick) = omega (arith, s .soon, s .time) in
-    record {
-      soon = omega (arith, s .soon, s .time);
-      left =
-          ap (answered p (end - st′ .tick)) (s .becomes)
-          ∙ sym (answered-on p (end - st′ .tick) (s .ticks) st (s .unended f))
-          ∙ (rw z at (g .left));
-    }
+  -- ticks were taken, and the run goes on after them
+  pub next-goes : (st′ : State) → Next p st end st′ → st′ .tick ≢ st .tick → (st .tick < st′ .tick) × Going p st′ end r
+  next-goes st′ (over f e) t = absurd (t (ap (λ (x : State). x .tick) e))
+  next-goes st′ (later s) t =
+      let z : end - st .tick ≡ s .ticks + (end - st′ .tick) = omega (arith, s .soon, s .time) in (
+        omega (arith, s .rises, s .time),
+        record {
+          soon = omega (arith, s .soon, s .time);
+          left =
+              ap (answered p (end - st′ .tick)) (s .becomes)
+              ∙ sym (answered-on p (end - st′ .tick) (s .ticks) st (s .unended))
+              ∙ (rw z at (g .left));
+        },
+      )

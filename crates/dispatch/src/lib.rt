@@ -75,7 +75,7 @@ fn judge_step(
     if 10000000 <= tick {
         return Judgement::Wrong(Refusal::Bounds);
     }
-    if state::all_finished(jobs, executed) {
+    if ticks::all_finished(jobs, executed) {
         return Judgement::Wrong(Refusal::Finished);
     }
     Judgement::Ready
@@ -213,10 +213,7 @@ fn run_on(
     let end = ends::all_end_by(jobs, times);
     let mut tick = 0;
     while tick < end {
-        if state::all_finished(jobs, executed) {
-            return tick;
-        }
-        tick = events::skip(
+        let next = events::skip(
             jobs,
             arcs,
             sections,
@@ -227,6 +224,10 @@ fn run_on(
             marks,
             finish,
         );
+        if next == tick {
+            return tick;
+        }
+        tick = next;
     }
     tick
 }

@@ -1,28 +1,12 @@
-// Whether a state that is handed in is within bounds, and whether its run is over.
+// Whether a state that is handed in is within bounds.
 ghost use mathlib.Core.Path.{_≡_};
 ghost use mathlib.Core.List.{[]};
 ghost use Prim.Native.Nat.{_*_, _%_, _<_};
 ghost use lib.ListN.{length};
 ghost use Rattle.rules.specs.Rows.{all};
-ghost use Rattle.rules.specs.Refusals.{allFinished, jobStateRight, stateInBounds};
-ghost use Rattle.rules.specs.Lists.{timed, state, at};
+ghost use Rattle.rules.specs.Refusals.{jobStateRight, stateInBounds};
+ghost use Rattle.rules.specs.Lists.{timed, state};
 ghost use Rattle.ticks.specs.Lists.{Same};
-
-// Whether every job has finished.
-pub fn all_finished(jobs: &[u32], executed: &[u32]) -> bool
-    requires { ⌜ length (now jobs) ≡ 3 * length (now executed) ⌝ }
-    ensures { λ r. ⌜ r ≡ allFinished (timed (now (jobs .entry)) []) (at 0 (now (executed .entry))) ⌝ }
-{
-    let n = executed.len();
-    let mut j = 0;
-    while j < n {
-        if executed[j] != jobs[3 * j + 1] {
-            return false;
-        }
-        j += 1;
-    }
-    true
-}
 
 // Whether what a state says of one job is within bounds.
 fn job_state_right(jobs: &[u32], executed: &[u32], marks: &[u32], finish: &[u32], j: usize) -> bool

@@ -2,7 +2,7 @@
 -- those ticks come to.
 use mathlib.Core.Path.{_≡_, sym, _∙_, ap}
 use mathlib.Core.Logic.{_≢_, _⊎_, ⊎-elim}
-use mathlib.Core.Bool.{Bool, false, _&&_}
+use mathlib.Core.Bool.{Bool, true, false, _&&_}
 use mathlib.Core.List.{List, []}
 use mathlib.Core.Option.{none, some}
 use Prim.Native.Nat.{ℕ, suc, _+_, _*_, _/_, _-_, _≤_, _<_, min}
@@ -53,7 +53,12 @@ pub record Skipped (p : Plan) (st : State) (end : ℕ) (st′ : State) : Type 0 
   pub soon : st .tick + ticks ≤ end
   pub time : st′ .tick ≡ st .tick + ticks
   pub becomes : st′ ≡ onward p st (replicate ticks false)
-  pub unended : allFinished p st ≡ false → (k : ℕ) → k < ticks → allFinished p (onward p st (replicate k false)) ≡ false
+  pub unended : (k : ℕ) → k < ticks → allFinished p (onward p st (replicate k false)) ≡ false
+
+-- What comes next: nothing, since every job has finished, or those ticks.
+pub data Next (p : Plan) (st : State) (end : ℕ) (st′ : State) : Type 0 where
+  over : allFinished p st ≡ true → st′ ≡ st → Next p st end st′
+  later : Skipped p st end st′ → Next p st end st′
 
 -- ---- the next release and the next stop
 
@@ -141,8 +146,8 @@ module _ (p : Plan) (st : State) (end : ℕ) (early : st .tick < end) (pairs : l
   free by n l i h g = omega (arith, release-least (p .times) (st .tick) by (length (p .times) / 2) i (omega arith) g)
 
   -- idle to the next release
-  pub skips-idle : chosen p st ≡ none → (r : ℕ) → r ≡ release end → Skipped p st end (state r (st .executed) (st .marks) (st .finish))
-  skips-idle c r e =
+  pub skips-idle : chosen p st ≡ none → allFinished p st ≡ false → (r : ℕ) → r ≡ release end → Skipped p st end (state r (st .executed) (st .marks) (st .finish))
+  skips-idle c f r e =
       let a = release-after (p .times) (st .tick) end (length (p .times) / 2) early in
       let n : ℕ = r - st .tick in
       let t : st .tick + n ≡ r = omega arith in
@@ -154,7 +159,7 @@ module _ (p : Plan) (st : State) (end : ℕ) (early : st .tick < end) (pairs : l
         soon = omega (arith, release-by (p .times) (st .tick) end (length (p .times) / 2));
         time = sym t;
         becomes = sym (rw (w, t) at (ticks-idle p st n c q (replicate n false) (omega arith)));
-        unended = λ f k h. idle-unended p st n c q f (replicate k false) (omega (arith, length-replicate k false));
+        unended = λ k h. idle-unended p st n c q f (replicate k false) (omega (arith, length-replicate k false));
       }
 
   -- the chosen job up to the next event
@@ -191,5 +196,5 @@ module _ (p : Plan) (st : State) (end : ℕ) (early : st .tick < end) (pairs : l
           soon = run-soon .1;
           time = ap (λ (x : State). x .tick) e;
           becomes = e ∙ sym (answered-at-once p st j l n c run-quiet (run-soon .0));
-          unended = λ f k h. given-unended p st j l n c run-quiet (replicate k false) (omega (arith, length-replicate k false));
+          unended = λ k h. given-unended p st j l n c run-quiet (replicate k false) (omega (arith, length-replicate k false));
         }

@@ -10,7 +10,7 @@ ghost use lib.Dec.{ltb, eqb};
 ghost use lib.ListN.{length, getD};
 ghost use Rattle.rules.specs.Lists.{plan, state, at};
 ghost use Rattle.ticks.specs.Lists.{Fit};
-ghost use Rattle.events.specs.Events.{nextRelease, nextStop, ticksFree, Skipped};
+ghost use Rattle.events.specs.Events.{nextRelease, nextStop, ticksFree, Next};
 
 // The next release after the tick, where `release` is looked at beside the next so far.
 fn sooner(tick: Instant, release: Instant, next: Instant) -> Instant
@@ -111,7 +111,8 @@ fn ticks_free(
     release.0 - tick
 }
 
-// Takes the ticks from this one to the next event, or to `end`, every report answered: the tick after them.
+// Takes the ticks from this one to the next event, or to `end`, every report answered: the tick after them. Where every job has
+// finished, no tick is taken; only where nobody runs can that be.
 pub fn skip(
     jobs: &[u32],
     arcs: &[u32],
@@ -124,13 +125,16 @@ pub fn skip(
     finish: &mut [u32],
 ) -> u32
     requires { ⌜ Fit (now jobs) (now arcs) (now sections) (now times) (now executed) (now marks) (now finish) × (tick < end) × (end ≤ 10000000) ⌝ }
-    ensures { λ r. ⌜ Skipped (plan (now (jobs .entry)) (now (arcs .entry)) (now (sections .entry)) (now (times .entry)))
+    ensures { λ r. ⌜ Next (plan (now (jobs .entry)) (now (arcs .entry)) (now (sections .entry)) (now (times .entry)))
         (state tick (now (executed .entry)) (now (marks .entry)) (now (finish .entry))) end
         (state r (now (executed .exit)) (now (marks .exit)) (now (finish .exit))) ⌝ }
 {
     let ran = choice::choose(jobs, sections, times, tick, executed);
     match ran {
         Found::Nothing => {
+            if ticks::all_finished(jobs, executed) {
+                return tick;
+            }
             let release = next_release(times, Instant(tick), Instant(end));
             release.0
         }

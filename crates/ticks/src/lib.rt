@@ -1,14 +1,16 @@
-// What a tick writes: who ran, how far the job is, and its mark and finish where it ends.
+// What a tick writes: who ran, how far the job is, and its mark and finish where it ends. And whether all
+// have finished.
 use choice::Found;
 ghost use mathlib.Core.Path.{_≡_};
 ghost use mathlib.Core.Bool.{_||_};
 ghost use mathlib.Core.List.{[]};
 ghost use Prim.Native.Nat.{_+_, _*_, _/_, _<_, _≤_};
 ghost use lib.ListN.{length, getD};
+ghost use Rattle.rules.specs.Refusals.{allFinished};
 ghost use Rattle.rules.specs.Tick.{markFor};
 ghost use Rattle.laws.specs.Events.{advanceBy};
 ghost use Rattle.ticks.specs.Marks.{bringsStale, staleBefore};
-ghost use Rattle.rules.specs.Lists.{plan, state};
+ghost use Rattle.rules.specs.Lists.{plan, timed, state, at};
 ghost use Rattle.choice.specs.Lists.{asOption, Within};
 ghost use Rattle.ticks.specs.Lists.{ArcsFit, Same, Fit, Ticked};
 
@@ -105,4 +107,20 @@ pub fn one_tick(
         }
     }
     ran
+}
+
+// Whether every job has finished.
+pub fn all_finished(jobs: &[u32], executed: &[u32]) -> bool
+    requires { ⌜ length (now jobs) ≡ 3 * length (now executed) ⌝ }
+    ensures { λ r. ⌜ r ≡ allFinished (timed (now (jobs .entry)) []) (at 0 (now (executed .entry))) ⌝ }
+{
+    let n = executed.len();
+    let mut j = 0;
+    while j < n {
+        if executed[j] != jobs[3 * j + 1] {
+            return false;
+        }
+        j += 1;
+    }
+    true
 }

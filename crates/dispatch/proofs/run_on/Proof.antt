@@ -1,10 +1,9 @@
 -- What is left of the run comes to what the whole run comes to.
-use Rattle.dispatch.specs.Ends.{Going, fit-same, run-begins, run-over, run-stops, run-skips}
+use Rattle.dispatch.specs.Ends.{Going, fit-same, run-begins, run-over, next-ends, next-goes}
 use Rattle.rules.specs.Lists.{plan, state}
 use Rattle.ticks.specs.Lists.{Fit}
 use Rattle.rules.specs.Run.{answered}
-use Rattle.rules.specs.Refusals.{allFinished}
-use mathlib.Core.Path.{refl, sym, _∙_}
+use mathlib.Core.Path.{refl}
 use Prim.Native.Nat.{_-_, _≤_}
 use native.Mathlib.Omega.{arith}
 use borrow.Author.Needs.{needs}
@@ -23,8 +22,8 @@ all-end-by-requires c κs = search needs
 loop-holds : tie.Need-loop-holds Inv-loop μ-loop
 loop-holds c = (c .all-end-by .ensures .1, c .before .before .before .before .before .before .before .before .pre .0, run-begins _ _ _ refl)
 
-all-finished-requires : tie.Need-all-finished-requires Inv-loop μ-loop
-all-finished-requires c κs = c .before .before .loop .inv .1 .lists .by-job
+skip-requires : tie.Need-skip-requires Inv-loop μ-loop
+skip-requires c κs = let l = c .before .before .before .before in (l .loop .inv .1, omega arith, omega arith)
 
 same-length : tie.Need-same-length Inv-loop μ-loop
 same-length c = search needs
@@ -36,28 +35,24 @@ same-length-3 : tie.Need-same-length-3 Inv-loop μ-loop
 same-length-3 c = search needs
 
 returns : tie.Need-returns Inv-loop μ-loop
-unfolding allFinished
 returns c =
-    let l = c .before .before .before .before in
-    rw (← l .before .all-end-by .ensures .0) (run-stops (l .loop .inv .2) (omega arith) (sym (c .before .all-finished .ensures) ∙ c .if1 .taken))
-
-skip-requires : tie.Need-skip-requires Inv-loop μ-loop
-skip-requires c κs =
-    let l = c .before .before .before .before .before .before .before in
-    (l .loop .inv .1, omega arith, omega arith)
+    let s = c .before .before .before .before .before .before .before in
+    let l = s .before .before .before .before .before in
+    rw (← l .before .all-end-by .ensures .0, ← c .if1 .taken) (next-ends (l .loop .inv .2) (omega arith) _ (s .skip .ensures) (c .if1 .taken))
 
 loop-less : tie.Need-loop-less Inv-loop μ-loop
-loop-less c = let s = c .before .before .before .before .before .before .skip .ensures in omega (arith, s .rises, s .soon, s .time)
+loop-less c =
+    let s = c .before .before .before .before .before .before .before in
+    let (g, h) = next-goes (s .before .before .before .before .before .loop .inv .2) _ (s .skip .ensures) (c .if1 .left) in
+    omega (arith, g, h .soon)
 
 loop-again : tie.Need-loop-again Inv-loop μ-loop
-unfolding allFinished
 loop-again c =
-    let t = c .before .before .before .before .before .before in
-    let e = t .before .before .before .before in
-    let l = e .before .before .before .before in (
+    let s = c .before .before .before .before .before .before .before in
+    let l = s .before .before .before .before .before in (
       l .loop .inv .0,
       fit-same (l .loop .inv .1) (omega arith) (omega arith) (omega arith),
-      run-skips (l .loop .inv .2) _ (sym (e .before .all-finished .ensures) ∙ e .if1 .left) (t .skip .ensures),
+      next-goes (l .loop .inv .2) _ (s .skip .ensures) (c .if1 .left) .1,
     )
 
 same-length-4 : tie.Need-same-length-4 Inv-loop μ-loop
@@ -80,12 +75,11 @@ run-on-spec =
     μ-loop
     all-end-by-requires
     loop-holds
-    all-finished-requires
+    skip-requires
     same-length
     same-length-2
     same-length-3
     returns
-    skip-requires
     loop-less
     loop-again
     same-length-4

@@ -1,13 +1,14 @@
 -- The choice, and how far it lasts: idle to the next release, or the job's own ticks up to the next event.
 use Rattle.choice.specs.Choice.{found-at, found-none}
-use Rattle.events.specs.Events.{ticksFree, skips-idle, run-quiet, run-soon, skips-run}
+use Rattle.events.specs.Events.{over, later, ticksFree, skips-idle, run-quiet, run-soon, skips-run}
 use Rattle.rules.specs.Lists.{plan, state}
 use Rattle.choice.specs.Lists.{within-at}
 use Rattle.laws.specs.Chosen.{chosen-left}
 use Rattle.laws.specs.Events.{Quiet, advanceBy}
+use Rattle.rules.specs.Refusals.{allFinished}
 use Rattle.rules.specs.Tick.{chosen}
 use Rattle.rules.specs.Table.{Plan, State}
-use mathlib.Core.Path.{_≡_}
+use mathlib.Core.Path.{_≡_, refl, sym, _∙_}
 use mathlib.Core.Option.{some}
 use Prim.Native.Nat.{ℕ, _+_, _/_, _<_, _≤_}
 use native.Mathlib.Omega.{arith}
@@ -65,6 +66,16 @@ choose-requires c κs = search needs
 enum-told : tie.Need-enum-told
 enum-told c = search needs
 
+all-finished-requires : tie.Need-all-finished-requires
+all-finished-requires c κs = search needs
+
+same-length : tie.Need-same-length
+same-length c = search needs
+
+returns : tie.Need-returns
+unfolding allFinished
+returns c = over (sym (c .before .all-finished .ensures) ∙ c .if1 .taken) refl
+
 next-release-requires : tie.Need-next-release-requires
 next-release-requires c κs = search needs
 
@@ -91,17 +102,18 @@ add-result c =
     let h : begin (made (gone t)) .args .tick + t .ticks-free .result ≤ begin (made (gone t)) .args .end = soon t .1 in
     record { fits = omega (arith, begin (made (gone t)) .pre .2) }
 
-same-length : tie.Need-same-length
-same-length c = search needs
-
-returns : tie.Need-returns
-returns c =
-    let m = c .before .before .before in
-    let b = begin m in
-    skips-idle _ _ _ (early b) (pairs b) (found-none _ _ _ _ _ _ _ _ _ (m .choose .ensures .1) (c .before .enum-told .given .1)) _ (c .next-release .ensures)
-
 same-length-2 : tie.Need-same-length-2
 same-length-2 c = search needs
+
+returns-2 : tie.Need-returns-2
+unfolding allFinished
+returns-2 c =
+    let e = c .before .before in
+    let m = e .before .before .before .before in
+    let b = begin m in
+    later
+    (skips-idle _ _ _ (early b) (pairs b) (found-none _ _ _ _ _ _ _ _ _ (m .choose .ensures .1) (e .before .before .enum-told .given .1))
+    (sym (e .all-finished .ensures) ∙ c .before .if1 .left) _ (c .next-release .ensures))
 
 same-length-3 : tie.Need-same-length-3
 same-length-3 c = search needs
@@ -109,12 +121,16 @@ same-length-3 c = search needs
 same-length-4 : tie.Need-same-length-4
 same-length-4 c = search needs
 
-returns-2 : tie.Need-returns-2
+same-length-5 : tie.Need-same-length-5
+same-length-5 c = search needs
+
+returns-3 : tie.Need-returns-3
 unfolding advanceBy
-returns-2 c =
+returns-3 c =
     let t = c .before .before .before .before .before .before .before .before .before .before in
     let b = begin (made (gone t)) in
-    skips-run _ _ _ (early b) (pairs b) _ (runs (gone t)) _ (ticks-are t) (in-table (gone t)) _ (c .before .before .before .before .before .before .give-ticks .ensures)
+    later
+    (skips-run _ _ _ (early b) (pairs b) _ (runs (gone t)) _ (ticks-are t) (in-table (gone t)) _ (c .before .before .before .before .before .before .give-ticks .ensures))
 
 pub skip-spec : {M : Type 1} → statement M
 skip-spec =
@@ -122,14 +138,17 @@ skip-spec =
     (tie.spec
     choose-requires
     enum-told
+    all-finished-requires
+    same-length
+    returns
     next-release-requires
     enum-known-ran
     ticks-free-requires
     give-ticks-requires
     add-result
-    same-length
-    returns
     same-length-2
+    returns-2
     same-length-3
     same-length-4
-    returns-2)
+    same-length-5
+    returns-3)

@@ -11,8 +11,8 @@ use native.Mathlib.Omega.{arith}
 use lib.ListN.{length}
 use borrow.Author.Tests.{eq-eqb, ne-eqb}
 use borrow.Author.Needs.{needs}
-use Rattle.dispatch.proofs.state.all_finished.Statement.{statement}
-use Rattle.dispatch.proofs.state.all_finished.Tie as tie
+use Rattle.ticks.proofs.all_finished.Statement.{statement}
+use Rattle.ticks.proofs.all_finished.Tie as tie
 
 abbrev Inv-loop : tie.InvT-loop
 Inv-loop jobs executed n j₀ j = (j ≤ n) × (all (finished (timed jobs []) (at 0 executed)) j ≡ true)
