@@ -9,5 +9,4 @@ pub mod Putting
 pub mod Lining
 pub mod Answers
 pub mod Walking
-pub mod Judging
-pub mod Filling
+pub mod Whole

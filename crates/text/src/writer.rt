@@ -35,8 +35,8 @@ fn line_length(k: usize, value: u32) -> usize
 
 // How many bytes the lines of a part's values have.
 fn values_length(part: Part, values: &[u32]) -> usize
-    requires { ⌜ length (now values) ≤ 1024 ⌝ }
-    ensures { λ r. ⌜ (r ≡ length (valueLines (partOf part) 0 (now (values .entry)))) × (r ≤ 20480) ⌝ }
+    requires { ⌜ length (now values) ≤ 512 ⌝ }
+    ensures { λ r. ⌜ (r ≡ length (valueLines (partOf part) 0 (now (values .entry)))) × (r ≤ 10240) ⌝ }
 {
     let mut sum = 0;
     let mut i = 0;
@@ -58,7 +58,7 @@ fn rows(part: Part, values: &[u32]) -> u32
 // How many bytes a part has.
 fn part_length(part: Part, values: &[u32]) -> usize
     requires { ⌜ Counted (partOf part) (now values) ⌝ }
-    ensures { λ r. ⌜ (r ≡ length (partText (partOf part) (now (values .entry)))) × (r ≤ 20500) ⌝ }
+    ensures { λ r. ⌜ (r ≡ length (partText (partOf part) (now (values .entry)))) × (r ≤ 10260) ⌝ }
 {
     line_length(part.head(), rows(part, values)) + values_length(part, values)
 }
