@@ -1,7 +1,7 @@
 -- The laws of `put` for the writer's loops: copied bytes, and digits from the last to the first.
 use mathlib.Core.Path.{_≡_, refl, sym, _∙_, ap}
 use mathlib.Core.List.{List, [], _∷_, _++_, append-assoc}
-use Prim.Native.Nat.{ℕ, suc, _+_, _-_, _/_, _%_, _<_, _≤_}
+use Prim.Native.Nat.{ℕ, zero, suc, _+_, _-_, _/_, _%_, _^_, _<_, _≤_}
 use native.Mathlib.Nat.{add-zero}
 use native.Mathlib.Numerals.{add-one}
 use native.Mathlib.Omega.{arith}
@@ -70,6 +70,16 @@ pub record Numbering (o₀ : List ℕ) (at n : ℕ) (o : List ℕ) (m p : ℕ) :
 
 pub digits-more : (m : ℕ) → 10 ≤ m → length (digits m) ≡ length (digits (m / 10)) + 1
 digits-more m h = rw (last-digit m h, length-append)
+
+-- how many there are, by the powers of ten
+power-pos : (k : ℕ) → 1 ≤ 10 ^ k
+power-pos zero = omega arith
+power-pos (suc k) = omega (arith, power-pos k)
+
+pub digits-sized : (k n : ℕ) → 10 ^ k ≤ n → n < 10 ^ suc k → length (digits n) ≡ suc k
+digits-sized zero n h l = ap length (one-digit n (omega arith))
+digits-sized (suc k) n h l =
+    omega (arith, digits-more n (omega (arith, power-pos k)), digits-sized k (n / 10) (omega arith) (omega arith))
 
 module _ {o₀ : List ℕ} {at n : ℕ} {o : List ℕ} {m p : ℕ} (w : Numbering o₀ at n o m p) where
   pub writes : 10 ≤ m → Numbering o₀ at n (set o (p - 1) (48 + m % 10)) (m / 10) (p - 1)

@@ -12,17 +12,33 @@ use crate::parts::Part;
 
 // ---- lengths
 
-// How many digits n has.
+// How many digits n has, by comparison with the powers of ten.
 pub fn digit_count(n: u32) -> usize
     ensures { λ r. ⌜ (r ≡ length (digits n)) × (r ≤ 10) ⌝ }
 {
-    let mut rest = n;
-    let mut count = 1;
-    while 10 <= rest {
-        rest /= 10;
-        count += 1;
+    if n < 100000 {
+        if n < 10 {
+            1
+        } else if n < 100 {
+            2
+        } else if n < 1000 {
+            3
+        } else if n < 10000 {
+            4
+        } else {
+            5
+        }
+    } else if n < 1000000 {
+        6
+    } else if n < 10000000 {
+        7
+    } else if n < 100000000 {
+        8
+    } else if n < 1000000000 {
+        9
+    } else {
+        10
     }
-    count
 }
 
 // How many bytes the line of key k and a value has.
