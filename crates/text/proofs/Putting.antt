@@ -10,6 +10,7 @@ use lib.Seq.{drop-cons, take-set-le, drop-set-lt, getD-set-same, set-split}
 use Rattle.rules.specs.Text.{digits}
 use Rattle.laws.specs.Digits.{one-digit, last-digit}
 use Rattle.text.specs.Put.{put, Over}
+use Rattle.text.proofs.Powers.{power-least}
 use Rattle.text.specs.Pieces.{put-none, put-first}
 
 -- the last of what is put may be stored first
@@ -72,14 +73,10 @@ pub digits-more : (m : ℕ) → 10 ≤ m → length (digits m) ≡ length (digit
 digits-more m h = rw (last-digit m h, length-append)
 
 -- how many there are, by the powers of ten
-power-pos : (k : ℕ) → 1 ≤ 10 ^ k
-power-pos zero = omega arith
-power-pos (suc k) = omega (arith, power-pos k)
-
 pub digits-sized : (k n : ℕ) → 10 ^ k ≤ n → n < 10 ^ suc k → length (digits n) ≡ suc k
 digits-sized zero n h l = ap length (one-digit n (omega arith))
 digits-sized (suc k) n h l =
-    omega (arith, digits-more n (omega (arith, power-pos k)), digits-sized k (n / 10) (omega arith) (omega arith))
+    omega (arith, digits-more n (omega (arith, power-least k)), digits-sized k (n / 10) (omega arith) (omega arith))
 
 module _ {o₀ : List ℕ} {at n : ℕ} {o : List ℕ} {m p : ℕ} (w : Numbering o₀ at n o m p) where
   pub writes : 10 ≤ m → Numbering o₀ at n (set o (p - 1) (48 + m % 10)) (m / 10) (p - 1)
