@@ -104,7 +104,7 @@ pub fn put_bytes(out: &mut [u8], at: usize, bytes: &[u8]) -> usize
     at + i
 }
 
-// The digits of n, written from `at` on, the last one first.
+// The digits of n, written from `at` on, the last ones first, two at a time.
 pub fn put_number(out: &mut [u8], at: usize, n: u32) -> usize
     requires { ⌜ at + length (digits n) ≤ length (now out) ⌝ }
     ensures { λ r. ⌜ Over (now (out .entry)) at (digits n) (now (out .exit)) r ⌝ }
@@ -112,10 +112,17 @@ pub fn put_number(out: &mut [u8], at: usize, n: u32) -> usize
     let end = at + digit_count(n);
     let mut p = end;
     let mut rest = n;
-    while 10 <= rest {
-        p -= 1;
-        out[p] = 48 + (rest % 10) as u8;
-        rest /= 10;
+    while 100 <= rest {
+        p -= 2;
+        let two = rest % 100;
+        out[p + 1] = 48 + (two % 10) as u8;
+        out[p] = 48 + (two / 10) as u8;
+        rest /= 100;
+    }
+    if 10 <= rest {
+        out[at + 1] = 48 + (rest % 10) as u8;
+        out[at] = 48 + (rest / 10) as u8;
+        return end;
     }
     out[at] = 48 + rest as u8;
     end
