@@ -18,15 +18,30 @@ pub enum Found {
     Stopped(usize),
 }
 
+// How far a line that has fewer bytes than these starts with them.
+fn match_front(line: &[u8], bytes: &[u8]) -> Match
+    requires { ⌜ length (now line) < length (now bytes) ⌝ }
+    ensures { λ r. ⌜ Matched (now (bytes .entry)) (now (line .entry)) r ⌝ }
+{
+    let mut i = 0;
+    while i < line.len() {
+        if line[i] != bytes[i] {
+            return Match::Stopped(i);
+        }
+        i += 1;
+    }
+    Match::Stopped(i)
+}
+
 // How far a line starts with these bytes.
 pub fn match_bytes(line: &[u8], bytes: &[u8]) -> Match
     ensures { λ r. ⌜ Matched (now (bytes .entry)) (now (line .entry)) r ⌝ }
 {
+    if line.len() < bytes.len() {
+        return match_front(line, bytes);
+    }
     let mut i = 0;
     while i < bytes.len() {
-        if line.len() <= i {
-            return Match::Stopped(i);
-        }
         if line[i] != bytes[i] {
             return Match::Stopped(i);
         }
