@@ -1,25 +1,26 @@
 -- The answers of `read` and `write`, one for each way out of the code.
-use mathlib.Core.Path.{_≡_, refl, sym, _∙_, ap}
+use mathlib.Core.Path.{_≡_, refl, _∙_, ap}
 use mathlib.Core.Bool.{Bool, true, false}
 use mathlib.Core.List.{List, [], _∷_}
-use Prim.Native.Nat.{ℕ, _*_, _≤_, _<_}
+use Prim.Native.Nat.{ℕ, _*_, _/_, _≤_, _<_}
+use native.Mathlib.Nat.{zero-add}
 use native.Mathlib.Omega.{arith}
-use borrow.Author.Tests.{le-leb, lt-leb, leb-true}
+use borrow.Author.Tests.{le-leb, lt-leb}
 use lib.Dec.{leb}
-use lib.ListN.{length}
+use lib.ListN.{length, take}
+use lib.Seq.{length-take-le, paste}
 use Rattle.rules.specs.Table.{Table}
-use Rattle.rules.specs.Refusals.{faultOf, Outcome, refused, gives, andThen, firstOf, demand, unless, room}
+use Rattle.rules.specs.Refusals.{faultOf, refused, gives, andThen, firstOf, demand, unless, room}
 use Rattle.rules.specs.Text.{jobPart, arcPart, sectionPart, textOf, read}
 use Rattle.rules.specs.declared.Refusal.{Refusal}
 use Rattle.rules.specs.declared.Refusal.the-variants.{Jobs, Arcs, Sections, Room}
-use Rattle.laws.specs.Answers.{not-both}
-use Rattle.laws.specs.Text.{lengthRight, countFault, count-fault, counted-is, counts-is, read-is}
+use Rattle.laws.specs.Text.{lengthRight, countFault, count-fault, counted-is}
 use Rattle.text.specs.declared.Writing.the-variants.{Refused, Bytes}
 use Rattle.text.specs.Put.{Over}
-use Rattle.text.specs.Passes.{TableCounted, textFrom, tableOf, TableReady, TableFilled}
+use Rattle.text.specs.Passes.{TableCounted, textFrom, fronts, Fronts}
 use Rattle.text.specs.declared.Reading.{Reading}
 use Rattle.text.specs.declared.Reading.the-variants.{Counts}
-use Rattle.text.specs.Promises.{roomFault, readInto, Rows, rowsOf, counted, Reads, writeInto, Writes}
+use Rattle.text.specs.Promises.{readInto, rowsOf, Reads, writeInto, Writes}
 use Rattle.text.specs.Pieces.{put-front}
 
 -- ---- write
@@ -75,56 +76,32 @@ module _ (jobs arcs sections out : List ℕ) where
 
 -- ---- read
 
--- what is known of a text that was judged right: it is given, and its counts are those of its table
-record Known (text : List ℕ) (j a s : ℕ) : Type 0 where
-  pub given : read text ≡ gives (tableOf (read text))
-  pub rows : record { jobs = j; arcs = a; sections = s } ≡ rowsOf (tableOf (read text))
-  pub jobs : length (tableOf (read text) .jobs) ≡ j * 3
-  pub arcs : length (tableOf (read text) .arcs) ≡ a * 2
-  pub sections : length (tableOf (read text) .sections) ≡ s * 4
-
-known : (text : List ℕ) {j a s : ℕ} → gives record { jobs = j; arcs = a; sections = s } ≡ counted (read text) → Known text j a s
-known text {j} {a} {s} e = by (read text) refl e
-  where
-    by : (o : Outcome Table) → read text ≡ o → gives record { jobs = j; arcs = a; sections = s } ≡ counted o → Known text j a s
-    by (refused f) p q = not-both refl q
-    by (gives t) p q =
-        let c = counts-is t (read-is text t p .right .counts) in
-        let r : record { jobs = j; arcs = a; sections = s } ≡ rowsOf t = cc in
-        let x : tableOf (read text) ≡ t = ap tableOf p in
-        record {
-          given = p ∙ ap gives (sym x);
-          rows = rw x r;
-          jobs = rw x (omega (arith, c .jobs .whole, ap (λ (w : Rows). w .jobs) r));
-          arcs = rw x (omega (arith, c .arcs .whole, ap (λ (w : Rows). w .arcs) r));
-          sections = rw x (omega (arith, c .sections .whole, ap (λ (w : Rows). w .sections) r));
-        }
-
 module _ (text jobs arcs sections : List ℕ) where
   refuses-text : (r : Refusal) → readInto text jobs arcs sections ≡ refused (faultOf r)
       → Reads text jobs arcs sections jobs arcs sections (Reading.Refused r)
   refuses-text r e = record { answer = rw e; jobs-left = rw e; arcs-left = rw e; sections-left = rw e }
 
   -- what is refused before room is asked for
-  pub text-refused : (r : Refusal) → refused (faultOf r) ≡ counted (read text)
-      → Reads text jobs arcs sections jobs arcs sections (Reading.Refused r)
+  pub text-refused : (r : Refusal) → read text ≡ refused (faultOf r) → Reads text jobs arcs sections jobs arcs sections (Reading.Refused r)
   unfolding readInto
-  text-refused r e = refuses-text r (by (read text) e)
-    where
-      by : (o : Outcome Table) → refused (faultOf r) ≡ counted o
-          → andThen o (λ t. unless (roomFault t jobs arcs sections) t) ≡ refused (faultOf r)
-      by (refused f) q = cc
-      by (gives t) q = not-both q refl
+  text-refused r e = refuses-text r (rw e)
 
-  module _ {j a s : ℕ} (e : gives record { jobs = j; arcs = a; sections = s } ≡ counted (read text)) where
+  module _ {own-jobs own-arcs own-sections : List ℕ} {j a s : ℕ} (f : Fronts text own-jobs own-arcs own-sections j a s) where
+    many-jobs : length (take (j * 3) own-jobs) ≡ j * 3
+    many-jobs = length-take-le (j * 3) own-jobs (f .jobs-room)
+
+    many-arcs : length (take (a * 2) own-arcs) ≡ a * 2
+    many-arcs = length-take-le (a * 2) own-arcs (f .arcs-room)
+
+    many-sections : length (take (s * 4) own-sections) ≡ s * 4
+    many-sections = length-take-le (s * 4) own-sections (f .sections-room)
+
     -- by the three tests of room
     read-into : (x y z : Bool) → leb (j * 3) (length jobs) ≡ x → leb (a * 2) (length arcs) ≡ y → leb (s * 4) (length sections) ≡ z
-        → readInto text jobs arcs sections ≡ unless (firstOf (demand x 11 ∷ demand y 11 ∷ demand z 11 ∷ [])) (tableOf (read text))
+        → readInto text jobs arcs sections
+        ≡ unless (firstOf (demand x 11 ∷ demand y 11 ∷ demand z 11 ∷ [])) (fronts own-jobs own-arcs own-sections j a s)
     unfolding readInto
-    read-into x y z p q r =
-        let k = known text e in
-        ap (λ (o : Outcome Table). andThen o (λ t. unless (roomFault t jobs arcs sections) t)) (k .given)
-        ∙ rw (k .jobs, k .arcs, k .sections, p, q, r)
+    read-into x y z p q r = rw (f .given, many-jobs, many-arcs, many-sections, p, q, r)
 
     pub lacks-jobs : leb (j * 3) (length jobs) ≡ false → Reads text jobs arcs sections jobs arcs sections (Reading.Refused Room)
     lacks-jobs p = refuses-text Room (read-into false _ _ p refl refl)
@@ -138,24 +115,20 @@ module _ (text jobs arcs sections : List ℕ) where
             → Reads text jobs arcs sections jobs arcs sections (Reading.Refused Room)
         lacks-sections r = refuses-text Room (read-into true true false p q r)
 
-        module _ (r : leb (s * 4) (length sections) ≡ true) where
-          pub table-ready : TableReady text jobs arcs sections
-          table-ready =
-              let k = known text e in
-              record {
-                given = k .given;
-                jobs-room = omega (arith, k .jobs, leb-true (j * 3) (length jobs) p);
-                arcs-room = omega (arith, k .arcs, leb-true (a * 2) (length arcs) q);
-                sections-room = omega (arith, k .sections, leb-true (s * 4) (length sections) r);
-              }
-
-          pub reads : {jobs′ arcs′ sections′ : List ℕ} → TableFilled text jobs arcs sections jobs′ arcs′ sections′
-              → Reads text jobs arcs sections jobs′ arcs′ sections′ (Counts j a s)
-          reads f =
-              let w = read-into true true true p q r in
-              record {
-                answer = rw w (ap gives (known text e .rows));
-                jobs-left = rw w (f .jobs-list ∙ put-front jobs (tableOf (read text) .jobs));
-                arcs-left = rw w (f .arcs-list ∙ put-front arcs (tableOf (read text) .arcs));
-                sections-left = rw w (f .sections-list ∙ put-front sections (tableOf (read text) .sections));
-              }
+        -- the fronts, copied
+        pub reads : {jobs′ arcs′ sections′ : List ℕ} → leb (s * 4) (length sections) ≡ true → jobs′ ≡ paste jobs 0 own-jobs (j * 3)
+            → arcs′ ≡ paste arcs 0 own-arcs (a * 2) → sections′ ≡ paste sections 0 own-sections (s * 4)
+            → Reads text jobs arcs sections jobs′ arcs′ sections′ (Counts j a s)
+        reads r x y z =
+            let w = read-into true true true p q r in
+            let c : record { jobs = j; arcs = a; sections = s } ≡ rowsOf (fronts own-jobs own-arcs own-sections j a s) =
+            let u : j ≡ length (take (j * 3) own-jobs) / 3 = omega (arith, many-jobs) in
+            let v : a ≡ length (take (a * 2) own-arcs) / 2 = omega (arith, many-arcs) in
+            let t : s ≡ length (take (s * 4) own-sections) / 4 = omega (arith, many-sections) in
+            rw (← u, ← v, ← t) in
+            record {
+              answer = rw w (ap gives c);
+              jobs-left = rw (w, many-jobs) (rw zero-add at x);
+              arcs-left = rw (w, many-arcs) (rw zero-add at y);
+              sections-left = rw (w, many-sections) (rw zero-add at z);
+            }

@@ -1,4 +1,5 @@
 -- What the proofs of several functions share.
+pub mod Powers
 pub mod Matching
 pub mod Numbers
 pub mod Lists
@@ -9,5 +10,4 @@ pub mod Putting
 pub mod Lining
 pub mod Answers
 pub mod Walking
-pub mod Judging
-pub mod Filling
+pub mod Whole

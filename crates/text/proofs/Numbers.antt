@@ -2,7 +2,7 @@
 use mathlib.Core.Path.{_≡_, refl, _∙_}
 use mathlib.Core.Bool.{true, false}
 use mathlib.Core.List.{List, [], _∷_}
-use Prim.Native.Nat.{ℕ, _+_, _-_, _*_, _<_, _≤_}
+use Prim.Native.Nat.{ℕ, suc, _+_, _-_, _*_, _^_, _<_, _≤_}
 use native.Mathlib.Numerals.{add-one}
 use native.Mathlib.Omega.{arith}
 use borrow.Author.Tests.{eq-eqb, ne-eqb, le-ltb, lt-ltb}
@@ -11,13 +11,8 @@ use lib.Seq.{drop-cons}
 use Rattle.rules.specs.Text.{lf, value, afterBytes, isDigit, mostNumber, numberFrom, number}
 use Rattle.laws.specs.Digits.{high}
 use Rattle.text.specs.declared.leaves.Found.the-variants.{Value, Stopped}
-use Rattle.text.specs.Leaves.{Took}
-
--- what is left to read answers what the whole does
-pub record Counting (t : List ℕ) (n i : ℕ) : Type 0 where
-  pub small : n ≤ mostNumber
-  pub in-text : i ≤ length t
-  pub left : number t ≡ numberFrom n (drop i t)
+use Rattle.text.specs.Leaves.{Counting, Took}
+use Rattle.text.proofs.Powers.{power-most}
 
 pub empty : (t : List ℕ) → length t ≡ 0 → Took (number t) t (Stopped 0)
 unfolding number
@@ -66,6 +61,23 @@ module _ {t : List ℕ} {n i : ℕ} (g : Counting t n i) where
             left = g .left
                 ∙ rw (add-one i, drop-cons t i 0 h, e, ne-eqb n 0 z, le-ltb mostNumber (n * 10 + (getD t i 0 - 48)) l);
           }
+
+-- two digits more, of a number of at most seven
+module _ {t : List ℕ} {n i : ℕ} (g : Counting t n i) (h : i + 1 < length t) (s : i ≤ 7) (z : 0 < n) (l : n < 10 ^ i)
+    (e : isDigit (getD t i 0) ≡ true) (f : isDigit (getD t (i + 1) 0) ≡ true) where
+  pub pair : Counting t (n * 100 + ((getD t i 0 - 48) * 10 + (getD t (i + 1) 0 - 48))) (i + 2)
+  pair =
+      let m = power-most i 7 s in
+      let a = longer g (omega arith) e (λ q. omega arith) (omega (arith, high (getD t i 0) e)) in
+      let b = longer a h f (λ q. omega arith) (omega (arith, high (getD t i 0) e, high (getD t (i + 1) 0) f)) in
+      let p : (n * 10 + (getD t i 0 - 48)) * 10 + (getD t (i + 1) 0 - 48) ≡ n * 100 + ((getD t i 0 - 48) * 10 + (getD t (i + 1) 0 - 48)) = omega arith in
+      let k : i + 1 + 1 ≡ i + 2 = omega arith in
+      rw (p, k) at b
+
+  pub pair-small : n * 100 + ((getD t i 0 - 48) * 10 + (getD t (i + 1) 0 - 48)) < 10 ^ (i + 2)
+  pair-small =
+      let k : i + 2 ≡ suc (suc i) = omega arith in
+      rw k (omega (arith, high (getD t i 0) e, high (getD t (i + 1) 0) f))
 
 -- an LF after the value, or not
 module _ (t : List ℕ) (v at : ℕ) (h : at ≤ length t) where

@@ -1,7 +1,7 @@
 -- The laws of `put` for the writer's loops: copied bytes, and digits from the last to the first.
 use mathlib.Core.Path.{_≡_, refl, sym, _∙_, ap}
 use mathlib.Core.List.{List, [], _∷_, _++_, append-assoc}
-use Prim.Native.Nat.{ℕ, suc, _+_, _-_, _/_, _%_, _<_, _≤_}
+use Prim.Native.Nat.{ℕ, zero, suc, _+_, _-_, _/_, _%_, _^_, _<_, _≤_}
 use native.Mathlib.Nat.{add-zero}
 use native.Mathlib.Numerals.{add-one}
 use native.Mathlib.Omega.{arith}
@@ -10,6 +10,7 @@ use lib.Seq.{drop-cons, take-set-le, drop-set-lt, getD-set-same, set-split}
 use Rattle.rules.specs.Text.{digits}
 use Rattle.laws.specs.Digits.{one-digit, last-digit}
 use Rattle.text.specs.Put.{put, Over}
+use Rattle.text.proofs.Powers.{power-least}
 use Rattle.text.specs.Pieces.{put-none, put-first}
 
 -- the last of what is put may be stored first
@@ -71,8 +72,17 @@ pub record Numbering (o₀ : List ℕ) (at n : ℕ) (o : List ℕ) (m p : ℕ) :
 pub digits-more : (m : ℕ) → 10 ≤ m → length (digits m) ≡ length (digits (m / 10)) + 1
 digits-more m h = rw (last-digit m h, length-append)
 
+pub two-digits : (m : ℕ) → 100 ≤ m → 2 ≤ length (digits m)
+two-digits m h = omega (arith, digits-more m (omega arith), digits-more (m / 10) (omega arith))
+
+-- how many there are, by the powers of ten
+pub digits-sized : (k n : ℕ) → 10 ^ k ≤ n → n < 10 ^ suc k → length (digits n) ≡ suc k
+digits-sized zero n h l = ap length (one-digit n (omega arith))
+digits-sized (suc k) n h l =
+    omega (arith, digits-more n (omega (arith, power-least k)), digits-sized k (n / 10) (omega arith) (omega arith))
+
 module _ {o₀ : List ℕ} {at n : ℕ} {o : List ℕ} {m p : ℕ} (w : Numbering o₀ at n o m p) where
-  pub writes : 10 ≤ m → Numbering o₀ at n (set o (p - 1) (48 + m % 10)) (m / 10) (p - 1)
+  writes : 10 ≤ m → Numbering o₀ at n (set o (p - 1) (48 + m % 10)) (m / 10) (p - 1)
   writes h =
       let k : length (digits m) ≡ length (digits (m / 10)) + 1 = digits-more m h in
       let q : p - 1 ≡ at + length (digits (m / 10)) = omega arith in
@@ -88,3 +98,21 @@ module _ {o₀ : List ℕ} {at n : ℕ} {o : List ℕ} {m p : ℕ} (w : Numberin
   written h =
       let l : length (digits m) ≡ 1 = ap length (one-digit m h) in
       set-split o at (48 + m) (omega arith) ∙ simp (← add-one) (rw (one-digit m h) at (w .left))
+
+-- two digits at a time
+module _ {o₀ : List ℕ} {at n : ℕ} {o : List ℕ} {m p : ℕ} (w : Numbering o₀ at n o m p) where
+  pub writes-two : 100 ≤ m
+      → Numbering o₀ at n (set (set o (p - 2 + 1) (48 + m % 100 % 10)) (p - 2) (48 + m % 100 / 10)) (m / 100) (p - 2)
+  writes-two h =
+      let second : p - 1 - 1 ≡ p - 2 = omega arith in
+      let first : p - 1 ≡ p - 2 + 1 = omega (arith, w .place, two-digits m h) in
+      let ones : m % 10 ≡ m % 100 % 10 = omega arith in
+      let tens : m / 10 % 10 ≡ m % 100 / 10 = omega arith in
+      let rest : m / 10 / 10 ≡ m / 100 = omega arith in
+      rw (second, first, ones, tens, rest) at (writes (writes w (omega arith)) (omega arith))
+
+  pub written-two : 10 ≤ m → m < 100 → set (set o (at + 1) (48 + m % 10)) at (48 + m / 10) ≡ put o₀ at (digits n)
+  written-two h l =
+      let j : length (digits (m / 10)) ≡ 1 = ap length (one-digit (m / 10) (omega arith)) in
+      let q : p - 1 ≡ at + 1 = omega (arith, w .place, digits-more m h) in
+      rw q at (written (writes w h) (omega arith))

@@ -1,17 +1,19 @@
 -- Rows of a part: how many values they have, and their text.
 use mathlib.Core.Path.{_≡_}
-use mathlib.Core.Bool.{true}
+use mathlib.Core.Bool.{true, and-eq-true-iff}
 use mathlib.Core.List.{List, append-assoc}
 use Prim.Native.Nat.{ℕ, _+_, _*_, _/_, _%_, _≤_}
 use native.Mathlib.Omega.{arith}
-use borrow.Author.Tests.{eq-eqb}
+use borrow.Author.Tests.{eq-eqb, leb-true}
+use lib.Dec.{leb}
 use lib.ListN.{length, length-append}
+use Rattle.rules.specs.Table.{mostJobs, mostArcs, mostSections}
 use Rattle.rules.specs.Text.{jobPart, arcPart, sectionPart, key, line, valueLines, partText}
 use Rattle.rules.specs.Text as rules
 use Rattle.laws.specs.Text.{lengthRight, Counted, part-text, text-of}
 use Rattle.text.specs.declared.parts.Part.{Part}
 use Rattle.text.specs.declared.parts.Part.the-variants.{Jobs, Arcs, Sections}
-use Rattle.text.specs.Parts.{partOf, sound}
+use Rattle.text.specs.Parts.{partOf, mostValues}
 use Rattle.text.specs.Put.{Over}
 use Rattle.text.specs.Passes.{textFrom}
 use Rattle.text.specs.Pieces.{two}
@@ -21,13 +23,18 @@ pub whole-rows : (b : rules.Part) (w n : ℕ) → w ≡ b .width → n % w ≡ 0
 whole-rows b w n e z = rw (← e, eq-eqb (n % w) 0 z)
 
 -- no part has many values
-pub few-rows : (p : Part) (n : ℕ) → partOf p .right n ≡ true → n * partOf p .width ≤ 1024
-few-rows Jobs n e = omega (arith, sound Jobs .few n e)
-few-rows Arcs n e = omega (arith, sound Arcs .few n e)
-few-rows Sections n e = omega (arith, sound Sections .few n e)
+pub few-rows : (p : Part) (n : ℕ) → partOf p .right n ≡ true → n * partOf p .width ≤ mostValues p
+few-rows Jobs n e = omega (arith, leb-true n mostJobs (and-eq-true-iff (leb 1 n) (leb n mostJobs) .0 e .1))
+few-rows Arcs n e = omega (arith, leb-true n mostArcs e)
+few-rows Sections n e = omega (arith, leb-true n mostSections e)
 
-pub few-values : (p : Part) (vs : List ℕ) → Counted (partOf p) vs → length vs ≤ 1024
-few-values p vs c = omega (arith, c .whole, few-rows p (length vs / partOf p .width) (c .right))
+pub few-most : (p : Part) → mostValues p ≤ 512
+few-most Jobs = omega arith
+few-most Arcs = omega arith
+few-most Sections = omega arith
+
+pub few-values : (p : Part) (vs : List ℕ) → Counted (partOf p) vs → length vs ≤ 512
+few-values p vs c = omega (arith, c .whole, few-rows p (length vs / partOf p .width) (c .right), few-most p)
 
 module _ (b : rules.Part) (vs : List ℕ) {k v : ℕ} (e : k ≡ b .head) (f : v ≡ length vs / b .width) where
   pub part-length : {m n : ℕ} → m ≡ length (line (key k) v) → n ≡ length (valueLines b 0 vs) → m + n ≡ length (partText b vs)

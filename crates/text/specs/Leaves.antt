@@ -3,7 +3,7 @@ use mathlib.Core.Path.{_≡_}
 use mathlib.Core.List.{List, [], _∷_}
 use Prim.Native.Nat.{ℕ, _≤_}
 use lib.ListN.{length, drop}
-use Rattle.rules.specs.Text.{lf, Front, value, wrong, afterBytes}
+use Rattle.rules.specs.Text.{lf, Front, value, wrong, afterBytes, mostNumber, numberFrom, number}
 use Rattle.text.specs.declared.leaves.Match.{Match}
 use Rattle.text.specs.declared.leaves.Match.the-variants.{Whole, Stopped}
 use Rattle.text.specs.declared.leaves.Found.{Found}
@@ -33,6 +33,12 @@ frontOf t (Found.Stopped n) = wrong (drop n t)
 pub record Matched (k t : List ℕ) (r : Match) : Type 0 where
   pub within : matchPlace r ≤ length t
   pub says : (go : List ℕ → Front) → afterBytes k t go ≡ onMatch r t go
+
+-- the first i bytes of t are read as n, and what is left to read answers what the whole does
+pub record Counting (t : List ℕ) (n i : ℕ) : Type 0 where
+  pub small : n ≤ mostNumber
+  pub in-text : i ≤ length t
+  pub left : number t ≡ numberFrom n (drop i t)
 
 -- f is what the rules find at the front of t
 pub record Took (f : Front) (t : List ℕ) (r : Found) : Type 0 where

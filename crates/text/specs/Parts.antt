@@ -1,4 +1,5 @@
 -- The code's three parts are those of the rules.
+use Prim.Native.Nat.{ℕ}
 use Rattle.rules.specs.Text.{jobPart, arcPart, sectionPart}
 use Rattle.rules.specs.Text as rules
 use Rattle.laws.specs.Text.{Sound, jobs-sound, arcs-sound, sections-sound}
@@ -10,6 +11,12 @@ abbrev pub partOf : Part → rules.Part
 partOf Jobs = jobPart
 partOf Arcs = arcPart
 partOf Sections = sectionPart
+
+-- how many values the largest has
+abbrev pub mostValues : Part → ℕ
+mostValues Jobs = 192
+mostValues Arcs = 512
+mostValues Sections = 512
 
 pub sound : (p : Part) → Sound (partOf p)
 sound Jobs = jobs-sound

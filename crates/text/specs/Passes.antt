@@ -1,66 +1,46 @@
 -- What each pass over a text or a table does with a part of it.
 use mathlib.Core.Path.{_≡_}
-use mathlib.Core.List.{List, []}
+use mathlib.Core.List.{List}
 use Prim.Native.Nat.{ℕ, _*_, _≤_}
-use lib.ListN.{length, drop}
+use lib.ListN.{length, take, drop}
 use Rattle.rules.specs.Table.{Table}
 use Rattle.rules.specs.Refusals.{faultOf, Outcome, refused, gives}
 use Rattle.rules.specs.Text.{Part, jobPart, arcPart, sectionPart, Taken, read, textOf}
 use Rattle.laws.specs.Text.{taken, Counted}
-use Rattle.text.specs.Put.{put}
-use Rattle.text.specs.declared.reader.Judged.{Judged}
-use Rattle.text.specs.declared.reader.Judged.the-variants.{Rows, Refused}
+use Rattle.text.specs.declared.reader.PartRead.{PartRead}
+use Rattle.text.specs.declared.reader.PartRead.the-variants.{Rows, Refused}
+use Rattle.text.specs.declared.Reading.{Reading}
+use Rattle.text.specs.declared.Reading.the-variants.{Counts}
 
--- ---- judging
+-- ---- reading
 
--- o gives so many rows, and goes on at line `line`, at the place `at` of t
-pub record Gives (b : Part) (t : List ℕ) (o : Outcome Taken) (count at line : ℕ) : Type 0 where
-  pub values : List ℕ
-  pub given : o ≡ gives (taken values line (drop at t))
-  pub many : length values ≡ count * b .width
+-- o gives so many rows, whose values stand in the front of `out`, and goes on at line `line`, at the place `at` of t
+pub record Gives (b : Part) (t : List ℕ) (o : Outcome Taken) (out : List ℕ) (count at line : ℕ) : Type 0 where
+  pub given : o ≡ gives (taken (take (count * b .width) out) line (drop at t))
+  pub room : count * b .width ≤ length out
   pub within : at ≤ length t
 
--- what judging a part of the text answers: where its rows end, or why it is refused
-abbrev pub Judges : Part → List ℕ → Outcome Taken → Judged → Type 0
-Judges b t o (Rows count at line) = Gives b t o count at line
-Judges b t o (Refused r) = o ≡ refused (faultOf r)
+-- what reading a part of the text answers: where its rows end, or why it is refused
+abbrev pub ReadsPart : Part → List ℕ → Outcome Taken → List ℕ → PartRead → Type 0
+ReadsPart b t o out (Rows count at line) = Gives b t o out count at line
+ReadsPart b t o out (Refused r) = o ≡ refused (faultOf r)
 
--- ---- filling
+-- the table of so many rows that stands in the fronts of three lists
+abbrev pub fronts : (jobs arcs sections : List ℕ) (j a s : ℕ) → Table
+fronts jobs arcs sections j a s =
+    record { jobs = take (j * 3) jobs; arcs = take (a * 2) arcs; sections = take (s * 4) sections }
 
--- what is given, where it is
-abbrev pub takenOf : Outcome Taken → Taken
-takenOf (refused f) = taken [] 0 []
-takenOf (gives k) = k
+-- the text is that of a table of so many rows, which stands in the fronts of the lists
+pub record Fronts (text jobs arcs sections : List ℕ) (j a s : ℕ) : Type 0 where
+  pub given : read text ≡ gives (fronts jobs arcs sections j a s)
+  pub jobs-room : j * 3 ≤ length jobs
+  pub arcs-room : a * 2 ≤ length arcs
+  pub sections-room : s * 4 ≤ length sections
 
--- o was judged, at the place `from` of t, and there is room for its values
-pub record Ready (o : Outcome Taken) (t : List ℕ) (from : ℕ) (out : List ℕ) : Type 0 where
-  pub within : from ≤ length t
-  pub given : o ≡ gives (takenOf o)
-  pub room : length (takenOf o .values) ≤ length out
-
--- its values are written, and it goes on at the place r of t
-pub record Filled (o : Outcome Taken) (t out out′ : List ℕ) (r : ℕ) : Type 0 where
-  pub within : r ≤ length t
-  pub rest : drop r t ≡ takenOf o .rest
-  pub list : out′ ≡ put out 0 (takenOf o .values)
-
--- the table that is given, where one is
-abbrev pub tableOf : Outcome Table → Table
-tableOf (refused f) = record { jobs = []; arcs = []; sections = [] }
-tableOf (gives t) = t
-
--- the text was judged right, and there is room for its table
-pub record TableReady (text jobs arcs sections : List ℕ) : Type 0 where
-  pub given : read text ≡ gives (tableOf (read text))
-  pub jobs-room : length (tableOf (read text) .jobs) ≤ length jobs
-  pub arcs-room : length (tableOf (read text) .arcs) ≤ length arcs
-  pub sections-room : length (tableOf (read text) .sections) ≤ length sections
-
--- the table stands in the fronts of the lists
-pub record TableFilled (text jobs arcs sections jobs′ arcs′ sections′ : List ℕ) : Type 0 where
-  pub jobs-list : jobs′ ≡ put jobs 0 (tableOf (read text) .jobs)
-  pub arcs-list : arcs′ ≡ put arcs 0 (tableOf (read text) .arcs)
-  pub sections-list : sections′ ≡ put sections 0 (tableOf (read text) .sections)
+-- what reading a text answers: a table in the fronts of the lists, or why it is refused
+abbrev pub ReadsText : (text jobs arcs sections : List ℕ) → Reading → Type 0
+ReadsText text jobs arcs sections (Counts j a s) = Fronts text jobs arcs sections j a s
+ReadsText text jobs arcs sections (Reading.Refused r) = read text ≡ refused (faultOf r)
 
 -- ---- writing
 

@@ -3,7 +3,7 @@ ghost use mathlib.Core.Path.{_≡_};
 ghost use Prim.Native.Nat.{_+_, _<_, _≤_};
 ghost use lib.ListN.{length, drop};
 ghost use Rattle.rules.specs.Text.{key, isDigit, number, lineValue};
-ghost use Rattle.text.specs.Leaves.{Matched, Took, LineEnds};
+ghost use Rattle.text.specs.Leaves.{Matched, Counting, Took, LineEnds};
 use crate::keys;
 
 // How far bytes match: all of them, so many, or only so many.
@@ -18,15 +18,30 @@ pub enum Found {
     Stopped(usize),
 }
 
+// How far a line that has fewer bytes than these starts with them.
+fn match_front(line: &[u8], bytes: &[u8]) -> Match
+    requires { ⌜ length (now line) < length (now bytes) ⌝ }
+    ensures { λ r. ⌜ Matched (now (bytes .entry)) (now (line .entry)) r ⌝ }
+{
+    let mut i = 0;
+    while i < line.len() {
+        if line[i] != bytes[i] {
+            return Match::Stopped(i);
+        }
+        i += 1;
+    }
+    Match::Stopped(i)
+}
+
 // How far a line starts with these bytes.
 pub fn match_bytes(line: &[u8], bytes: &[u8]) -> Match
     ensures { λ r. ⌜ Matched (now (bytes .entry)) (now (line .entry)) r ⌝ }
 {
+    if line.len() < bytes.len() {
+        return match_front(line, bytes);
+    }
     let mut i = 0;
     while i < bytes.len() {
-        if line.len() <= i {
-            return Match::Stopped(i);
-        }
         if line[i] != bytes[i] {
             return Match::Stopped(i);
         }
@@ -47,6 +62,45 @@ fn wide(b: u8) -> u64
     b as u64
 }
 
+fn least(a: usize, b: usize) -> usize
+    ensures { λ r. ⌜ (r ≤ a) × (r ≤ b) ⌝ }
+{
+    if a < b { a } else { b }
+}
+
+// Digits that are read: the number they stand for, and the place after them.
+pub struct Front {
+    pub value: u64,
+    pub end: usize,
+}
+
+// The digits after a number's first, two at a time while both are there. No nine digits make a number too large, so none is
+// refused here.
+fn read_pairs(digits: &[u8], first: u64) -> Front
+    requires { ⌜ Counting (now digits) first 1 × (first < 10) ⌝ }
+    ensures { λ r. ⌜ Counting (now (digits .entry)) (r .value) (r .end) ⌝ }
+{
+    let most = least(digits.len(), 9);
+    let mut value = first;
+    let mut i = 1;
+    if first == 0 {
+        return Front { value, end: i };
+    }
+    while i + 1 < most {
+        let tens = digits[i];
+        let ones = digits[i + 1];
+        if !is_digit(tens) {
+            return Front { value, end: i };
+        }
+        if !is_digit(ones) {
+            return Front { value, end: i };
+        }
+        value = value * 100 + (wide(tens - 48) * 10 + wide(ones - 48));
+        i += 2;
+    }
+    Front { value, end: i }
+}
+
 // The number with which `digits` starts. A 0 is no number's first digit but its own, and no number is above 4,294,967,295.
 fn read_number(digits: &[u8]) -> Found
     ensures { λ r. ⌜ Took (number (now (digits .entry))) (now (digits .entry)) r ⌝ }
@@ -58,8 +112,9 @@ fn read_number(digits: &[u8]) -> Found
     if !is_digit(first) {
         return Found::Stopped(0);
     }
-    let mut value = wide(first - 48);
-    let mut i = 1;
+    let front = read_pairs(digits, wide(first - 48));
+    let mut value = front.value;
+    let mut i = front.end;
     while i < digits.len() {
         let digit = digits[i];
         if !is_digit(digit) {

@@ -22,12 +22,15 @@ pub enum Writing {
     Bytes(usize),
 }
 
-// Reads a text into the front of three lists. The whole text is judged before the first value is written.
+// Reads a text into the front of three lists. The whole text is read into lists of its own before the first value is written.
 pub fn read(text: &[u8], jobs: &mut [u32], arcs: &mut [u32], sections: &mut [u32]) -> Reading
     ensures { λ r. ⌜ Reads (now (text .entry)) (now (jobs .entry)) (now (arcs .entry)) (now (sections .entry)) (now (jobs .exit)) (now (arcs .exit)) (now (sections .exit)) r ⌝ }
 {
-    let judged = reader::judge(text);
-    match judged {
+    let mut own_jobs = [0u32; 192];
+    let mut own_arcs = [0u32; 512];
+    let mut own_sections = [0u32; 512];
+    let found = reader::read_text(text, &mut own_jobs, &mut own_arcs, &mut own_sections);
+    match found {
         Reading::Refused(_) => {}
         Reading::Counts {
             jobs: j,
@@ -43,10 +46,12 @@ pub fn read(text: &[u8], jobs: &mut [u32], arcs: &mut [u32], sections: &mut [u32
             if !Part::Sections.has_room(s, sections.len()) {
                 return Reading::Refused(Refusal::Room);
             }
-            reader::fill(text, jobs, arcs, sections);
+            reader::copy(&own_jobs, Part::Jobs.values(j), jobs);
+            reader::copy(&own_arcs, Part::Arcs.values(a), arcs);
+            reader::copy(&own_sections, Part::Sections.values(s), sections);
         }
     }
-    judged
+    found
 }
 
 // Writes the text of a table into the front of `out`. Counts and room are judged before the first byte is written.

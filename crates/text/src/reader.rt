@@ -1,27 +1,35 @@
-// The two passes of the reader: a text is judged whole, and only then are lists filled from it.
+// The reader: one pass over a text, into lists with room for the largest table.
 ghost use mathlib.Core.Path.{_≡_};
 ghost use Prim.Native.Nat.{_*_, _<_, _≤_};
 ghost use lib.ListN.{length, drop};
-ghost use Rattle.rules.specs.Text.{readValues, readPart, read};
-ghost use Rattle.text.specs.Parts.{partOf};
-ghost use Rattle.text.specs.Passes.{Judges, Ready, Filled, TableReady, TableFilled};
-ghost use Rattle.text.specs.Promises.{readingSays, counted};
+ghost use lib.Seq.{paste};
+ghost use Rattle.rules.specs.Text.{readValues, readPart};
+ghost use Rattle.text.specs.Parts.{partOf, mostValues};
+ghost use Rattle.text.specs.Passes.{ReadsPart, ReadsText};
 use crate::Reading;
 use crate::leaves;
 use crate::leaves::Found;
 use crate::parts::Part;
 use rules::Refusal;
 
-// What judging a part comes to: how many rows it has, the place after it and the number of the line there; or a refusal.
-pub enum Judged {
+// What reading a part comes to: how many rows it has, the place after it and the number of the line there; or a refusal.
+pub enum PartRead {
     Rows(u32, usize, u32),
     Refused(Refusal),
 }
 
-// Judges the lines of `count` rows from the place `from` on, where line `first` starts.
-fn judge_rows(text: &[u8], part: Part, count: u32, from: usize, first: u32) -> Judged
-    requires { ⌜ (from ≤ length (now text)) × (count * partOf part .width ≤ 1024) × (first ≤ 4096) ⌝ }
-    ensures { λ r. ⌜ Judges (partOf part) (now (text .entry)) (readValues (partOf part) (count * partOf part .width) 0 first (drop from (now (text .entry)))) r ⌝ }
+// Reads the lines of `count` rows from the place `from` on, where line `first` starts, into the front of `out`.
+fn read_rows(
+    text: &[u8],
+    part: Part,
+    count: u32,
+    from: usize,
+    first: u32,
+    out: &mut [u32],
+) -> PartRead
+    requires { ⌜ (from ≤ length (now text)) × (count * partOf part .width ≤ 512) × (first ≤ 4096) ⌝ }
+    requires { ⌜ count * partOf part .width ≤ length (now out) ⌝ }
+    ensures { λ r. ⌜ ReadsPart (partOf part) (now (text .entry)) (readValues (partOf part) (count * partOf part .width) 0 first (drop from (now (text .entry)))) (now (out .exit)) r ⌝ }
 {
     let n = part.values(count);
     let mut at = from;
@@ -29,56 +37,58 @@ fn judge_rows(text: &[u8], part: Part, count: u32, from: usize, first: u32) -> J
     let mut i = 0;
     while i < n {
         let found = leaves::line_value(&text[at..], part.key_at(i));
-        let Found::Value { value: _, end } = found else {
-            return Judged::Refused(Refusal::Text(line));
+        let Found::Value { value, end } = found else {
+            return PartRead::Refused(Refusal::Text(line));
         };
+        out[i] = value;
         at += end;
         line += 1;
         i += 1;
     }
-    Judged::Rows(count, at, line)
+    PartRead::Rows(count, at, line)
 }
 
-// Judges a part from the place `from` on, where line `line` starts.
-fn judge_part(text: &[u8], part: Part, from: usize, line: u32) -> Judged
-    requires { ⌜ (from ≤ length (now text)) × (line < 4096) ⌝ }
-    ensures { λ r. ⌜ Judges (partOf part) (now (text .entry)) (readPart (partOf part) line (drop from (now (text .entry)))) r ⌝ }
+// Reads a part from the place `from` on, where line `line` starts, into the front of `out`.
+fn read_part(text: &[u8], part: Part, from: usize, line: u32, out: &mut [u32]) -> PartRead
+    requires { ⌜ (from ≤ length (now text)) × (line < 4096) × (mostValues part ≤ length (now out)) ⌝ }
+    ensures { λ r. ⌜ ReadsPart (partOf part) (now (text .entry)) (readPart (partOf part) line (drop from (now (text .entry)))) (now (out .exit)) r ⌝ }
 {
     let found = leaves::line_value(&text[from..], part.head());
     match found {
-        Found::Stopped(_) => Judged::Refused(Refusal::Text(line)),
+        Found::Stopped(_) => PartRead::Refused(Refusal::Text(line)),
         Found::Value { value, end } => {
             if !part.right(value as usize) {
-                return Judged::Refused(part.refusal(line));
+                return PartRead::Refused(part.refusal(line));
             }
-            judge_rows(text, part, value, from + end, line + 1)
+            read_rows(text, part, value, from + end, line + 1, out)
         }
     }
 }
 
-// Judges a whole text: the first pass, which writes nothing.
-pub fn judge(text: &[u8]) -> Reading
-    ensures { λ r. ⌜ readingSays r ≡ counted (read (now (text .entry))) ⌝ }
+// Reads a whole text into the fronts of three lists.
+pub fn read_text(text: &[u8], jobs: &mut [u32], arcs: &mut [u32], sections: &mut [u32]) -> Reading
+    requires { ⌜ (192 ≤ length (now jobs)) × (512 ≤ length (now arcs)) × (512 ≤ length (now sections)) ⌝ }
+    ensures { λ r. ⌜ ReadsText (now (text .entry)) (now (jobs .exit)) (now (arcs .exit)) (now (sections .exit)) r ⌝ }
 {
-    let first = judge_part(text, Part::Jobs, 0, 1);
+    let first = read_part(text, Part::Jobs, 0, 1, jobs);
     match first {
-        Judged::Refused(r) => Reading::Refused(r),
-        Judged::Rows(jobs, at, line) => {
-            let second = judge_part(text, Part::Arcs, at, line);
+        PartRead::Refused(r) => Reading::Refused(r),
+        PartRead::Rows(j, at, line) => {
+            let second = read_part(text, Part::Arcs, at, line, arcs);
             match second {
-                Judged::Refused(r) => Reading::Refused(r),
-                Judged::Rows(arcs, at, line) => {
-                    let third = judge_part(text, Part::Sections, at, line);
+                PartRead::Refused(r) => Reading::Refused(r),
+                PartRead::Rows(a, at, line) => {
+                    let third = read_part(text, Part::Sections, at, line, sections);
                     match third {
-                        Judged::Refused(r) => Reading::Refused(r),
-                        Judged::Rows(sections, at, line) => {
+                        PartRead::Refused(r) => Reading::Refused(r),
+                        PartRead::Rows(s, at, line) => {
                             if at < text.len() {
                                 return Reading::Refused(Refusal::Text(line));
                             }
                             Reading::Counts {
-                                jobs,
-                                arcs,
-                                sections,
+                                jobs: j,
+                                arcs: a,
+                                sections: s,
                             }
                         }
                     }
@@ -88,43 +98,14 @@ pub fn judge(text: &[u8]) -> Reading
     }
 }
 
-// Fills a list with the values of n lines from the place `from` on; the place after them.
-fn fill_values(text: &[u8], part: Part, n: usize, from: usize, out: &mut [u32]) -> usize
-    requires { ⌜ Ready (readValues (partOf part) n 0 1 (drop from (now text))) (now text) from (now out) ⌝ }
-    ensures { λ r. ⌜ Filled (readValues (partOf part) n 0 1 (drop from (now (text .entry)))) (now (text .entry)) (now (out .entry)) (now (out .exit)) r ⌝ }
+// Copies the first n values of a list to the front of another.
+pub fn copy(values: &[u32], n: usize, out: &mut [u32])
+    requires { ⌜ (n ≤ length (now values)) × (n ≤ length (now out)) ⌝ }
+    ensures { λ _. ⌜ now (out .exit) ≡ paste (now (out .entry)) 0 (now (values .entry)) n ⌝ }
 {
-    let mut at = from;
     let mut i = 0;
     while i < n {
-        let found = leaves::line_value(&text[at..], part.key_at(i));
-        let Found::Value { value, end } = found else {
-            return at;
-        };
-        out[i] = value;
-        at += end;
+        out[i] = values[i];
         i += 1;
     }
-    at
-}
-
-// Fills a list with the values of a part from the place `from` on; the place after it.
-fn fill_part(text: &[u8], part: Part, from: usize, out: &mut [u32]) -> usize
-    requires { ⌜ Ready (readPart (partOf part) 0 (drop from (now text))) (now text) from (now out) ⌝ }
-    ensures { λ r. ⌜ Filled (readPart (partOf part) 0 (drop from (now (text .entry)))) (now (text .entry)) (now (out .entry)) (now (out .exit)) r ⌝ }
-{
-    let found = leaves::line_value(&text[from..], part.head());
-    match found {
-        Found::Stopped(_) => from,
-        Found::Value { value, end } => fill_values(text, part, part.values(value), from + end, out),
-    }
-}
-
-// Fills the lists from a text that was judged: the second pass, which refuses nothing.
-pub fn fill(text: &[u8], jobs: &mut [u32], arcs: &mut [u32], sections: &mut [u32])
-    requires { ⌜ TableReady (now text) (now jobs) (now arcs) (now sections) ⌝ }
-    ensures { λ _. ⌜ TableFilled (now (text .entry)) (now (jobs .entry)) (now (arcs .entry)) (now (sections .entry)) (now (jobs .exit)) (now (arcs .exit)) (now (sections .exit)) ⌝ }
-{
-    let arcs_at = fill_part(text, Part::Jobs, 0, jobs);
-    let sections_at = fill_part(text, Part::Arcs, arcs_at, arcs);
-    fill_part(text, Part::Sections, sections_at, sections);
 }

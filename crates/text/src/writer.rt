@@ -12,17 +12,33 @@ use crate::parts::Part;
 
 // ---- lengths
 
-// How many digits n has.
+// How many digits n has, by comparison with the powers of ten.
 pub fn digit_count(n: u32) -> usize
     ensures { λ r. ⌜ (r ≡ length (digits n)) × (r ≤ 10) ⌝ }
 {
-    let mut rest = n;
-    let mut count = 1;
-    while 10 <= rest {
-        rest /= 10;
-        count += 1;
+    if n < 100000 {
+        if n < 10 {
+            1
+        } else if n < 100 {
+            2
+        } else if n < 1000 {
+            3
+        } else if n < 10000 {
+            4
+        } else {
+            5
+        }
+    } else if n < 1000000 {
+        6
+    } else if n < 10000000 {
+        7
+    } else if n < 100000000 {
+        8
+    } else if n < 1000000000 {
+        9
+    } else {
+        10
     }
-    count
 }
 
 // How many bytes the line of key k and a value has.
@@ -35,8 +51,8 @@ fn line_length(k: usize, value: u32) -> usize
 
 // How many bytes the lines of a part's values have.
 fn values_length(part: Part, values: &[u32]) -> usize
-    requires { ⌜ length (now values) ≤ 1024 ⌝ }
-    ensures { λ r. ⌜ (r ≡ length (valueLines (partOf part) 0 (now (values .entry)))) × (r ≤ 20480) ⌝ }
+    requires { ⌜ length (now values) ≤ 512 ⌝ }
+    ensures { λ r. ⌜ (r ≡ length (valueLines (partOf part) 0 (now (values .entry)))) × (r ≤ 10240) ⌝ }
 {
     let mut sum = 0;
     let mut i = 0;
@@ -58,7 +74,7 @@ fn rows(part: Part, values: &[u32]) -> u32
 // How many bytes a part has.
 fn part_length(part: Part, values: &[u32]) -> usize
     requires { ⌜ Counted (partOf part) (now values) ⌝ }
-    ensures { λ r. ⌜ (r ≡ length (partText (partOf part) (now (values .entry)))) × (r ≤ 20500) ⌝ }
+    ensures { λ r. ⌜ (r ≡ length (partText (partOf part) (now (values .entry)))) × (r ≤ 10260) ⌝ }
 {
     line_length(part.head(), rows(part, values)) + values_length(part, values)
 }
@@ -88,7 +104,7 @@ pub fn put_bytes(out: &mut [u8], at: usize, bytes: &[u8]) -> usize
     at + i
 }
 
-// The digits of n, written from `at` on, the last one first.
+// The digits of n, written from `at` on, the last ones first, two at a time.
 pub fn put_number(out: &mut [u8], at: usize, n: u32) -> usize
     requires { ⌜ at + length (digits n) ≤ length (now out) ⌝ }
     ensures { λ r. ⌜ Over (now (out .entry)) at (digits n) (now (out .exit)) r ⌝ }
@@ -96,10 +112,17 @@ pub fn put_number(out: &mut [u8], at: usize, n: u32) -> usize
     let end = at + digit_count(n);
     let mut p = end;
     let mut rest = n;
-    while 10 <= rest {
-        p -= 1;
-        out[p] = 48 + (rest % 10) as u8;
-        rest /= 10;
+    while 100 <= rest {
+        p -= 2;
+        let two = rest % 100;
+        out[p + 1] = 48 + (two % 10) as u8;
+        out[p] = 48 + (two / 10) as u8;
+        rest /= 100;
+    }
+    if 10 <= rest {
+        out[at + 1] = 48 + (rest % 10) as u8;
+        out[at] = 48 + (rest / 10) as u8;
+        return end;
     }
     out[at] = 48 + rest as u8;
     end

@@ -1,5 +1,5 @@
-use Rattle.text.specs.Promises.{puts-short, puts-over}
 -- `put_digits`: no room, no room, or the digits put.
+use Rattle.text.specs.Promises.{puts-short, puts-over}
 use native.Mathlib.Omega.{arith}
 use borrow.Author.Needs.{needs}
 use Rattle.text.proofs.put_digits.Statement.{statement}

@@ -1,5 +1,5 @@
-use Rattle.text.specs.Promises.{puts-short, puts-over}
 -- `put_word`: no room, no room, or the bytes put.
+use Rattle.text.specs.Promises.{puts-short, puts-over}
 use native.Mathlib.Omega.{arith}
 use borrow.Author.Needs.{needs}
 use Rattle.text.proofs.put_word.Statement.{statement}

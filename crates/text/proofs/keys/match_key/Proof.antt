@@ -2,20 +2,21 @@
 use borrow.Author.Needs.{needs}
 use native.Mathlib.Omega.{arith}
 use Rattle.text.proofs.Table.{key-at, lent-key}
+use borrow.Author.Needs.{needs}
 use Rattle.text.proofs.keys.match_key.Statement.{statement}
 use Rattle.text.proofs.keys.match_key.Tie as tie
-
-mul-start : tie.Need-mul-start
-mul-start c = search needs
 
 array-read-start : tie.Need-array-read-start
 array-read-start c = search needs
 
-mul-end : tie.Need-mul-end
-mul-end c = search needs
+cast-start : tie.Need-cast-start
+cast-start c = omega (arith, key-at (c .before .args .k) (c .before .pre) .within)
 
 array-read-end : tie.Need-array-read-end
 array-read-end c = search needs
+
+cast-end : tie.Need-cast-end
+cast-end c = omega (arith, key-at (c .before .args .k) (c .before .pre) .within)
 
 add-end : tie.Need-add-end
 add-end c = omega (arith, key-at (c .before .args .k) (c .before .pre) .within)
@@ -41,10 +42,10 @@ pub match-key-spec : {M : Type 1} → statement M
 match-key-spec =
     tie.close
     (tie.spec
-    mul-start
     array-read-start
-    mul-end
+    cast-start
     array-read-end
+    cast-end
     add-end
     sub-match-bytes
     part-match-bytes-start

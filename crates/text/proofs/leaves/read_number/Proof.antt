@@ -1,15 +1,16 @@
 -- `text::leaves::read_number` meets its contract: what is left to read answers what the whole does.
 use borrow.Author.Needs.{needs}
-use native.Mathlib.Omega.{arith}
 use mathlib.Core.Path.{_≡_, sym, _∙_}
 use mathlib.Core.Bool.{true}
-use borrow.Author.Tests.{not-true, not-false}
 use mathlib.Core.List.{List}
 use Prim.Native.Nat.{ℕ, _-_}
+use native.Mathlib.Omega.{arith}
+use borrow.Author.Tests.{not-true, not-false}
 use lib.ListN.{length, getD}
 use Rattle.rules.specs.Text.{isDigit}
 use Rattle.laws.specs.Digits.{low, high}
-use Rattle.text.proofs.Numbers.{Counting, empty, no-digit, begun, ended, other, leading, too-large, longer}
+use Rattle.text.specs.Leaves.{Counting}
+use Rattle.text.proofs.Numbers.{empty, no-digit, begun, ended, other, leading, too-large, longer}
 use Rattle.text.proofs.leaves.read_number.Statement.{statement}
 use Rattle.text.proofs.leaves.read_number.Tie as tie
 
@@ -27,7 +28,7 @@ abbrev at-loop : tie.Else3 Inv-loop μ-loop → tie.At-loop Inv-loop μ-loop
 at-loop c = c .before .before .before .before
 
 abbrev digits-of : tie.At-loop Inv-loop μ-loop → List ℕ
-digits-of c = c .before .before .before .before .before .before .before .args .digits .now
+digits-of c = c .before .before .before .before .before .before .before .before .args .digits .now
 
 next-digit : (c : tie.Else3 Inv-loop μ-loop) → isDigit (getD (digits-of (at-loop c)) (at-loop c .loop .i) 0) ≡ true
 next-digit c = sym (c .before .is-digit2 .ensures) ∙ not-false _ (c .if3 .left)
@@ -51,8 +52,13 @@ sub-wide c = omega (arith, low _ (first-digit c))
 wide-requires : tie.Need-wide-requires Inv-loop μ-loop
 wide-requires c κs = search needs
 
+read-pairs-requires : tie.Need-read-pairs-requires Inv-loop μ-loop
+read-pairs-requires c κs =
+    let d = first-digit (c .before) in
+    rw (c .wide .ensures) (begun _ (omega arith) d, omega (arith, high _ d))
+
 loop-holds : tie.Need-loop-holds Inv-loop μ-loop
-loop-holds c = rw (c .wide .ensures) (begun _ (omega arith) (first-digit (c .before)))
+loop-holds c = c .read-pairs .ensures
 
 shared-slice-read-digit : tie.Need-shared-slice-read-digit Inv-loop μ-loop
 shared-slice-read-digit c = search needs
@@ -60,8 +66,8 @@ shared-slice-read-digit c = search needs
 is-digit-requires-2 : tie.Need-is-digit-requires-2 Inv-loop μ-loop
 is-digit-requires-2 c κs = search needs
 
-cast-t17 : tie.Need-cast-t17 Inv-loop μ-loop
-cast-t17 c = search needs
+cast-t19 : tie.Need-cast-t19 Inv-loop μ-loop
+cast-t19 c = search needs
 
 returns-3 : tie.Need-returns-3 Inv-loop μ-loop
 returns-3 c =
@@ -102,8 +108,8 @@ loop-again c =
     rw (c .before .wide2 .ensures)
     (longer (at-loop d .loop .inv) (omega arith) (next-digit d) (c .before .before .if4 .left) (omega arith))
 
-cast-t20 : tie.Need-cast-t20 Inv-loop μ-loop
-cast-t20 c = search needs
+cast-t22 : tie.Need-cast-t22 Inv-loop μ-loop
+cast-t22 c = search needs
 
 returns-6 : tie.Need-returns-6 Inv-loop μ-loop
 returns-6 c = ended (c .before .loop .inv) (c .loop-test .left)
@@ -120,10 +126,11 @@ read-number-spec =
     returns-2
     sub-wide
     wide-requires
+    read-pairs-requires
     loop-holds
     shared-slice-read-digit
     is-digit-requires-2
-    cast-t17
+    cast-t19
     returns-3
     returns-4
     mul-longer
@@ -134,5 +141,5 @@ read-number-spec =
     add-i
     loop-less
     loop-again
-    cast-t20
+    cast-t22
     returns-6)

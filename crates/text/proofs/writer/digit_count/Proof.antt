@@ -1,40 +1,53 @@
--- `text::writer::digit_count` meets its contract: what is counted, with the digits of what is left, is the digits and one more.
-use mathlib.Core.Path.{_≡_, ap}
-use Prim.Native.Nat.{_+_, _^_, _<_, _≤_}
+-- `text::writer::digit_count` meets its contract: each answer by the two powers of ten that n lies between.
+use mathlib.Core.Path.{sym, ap}
 use native.Mathlib.Omega.{arith}
-use lib.ListN.{length, length-append}
-use Rattle.rules.specs.Text.{digits}
-use Rattle.laws.specs.Digits.{one-digit, last-digit, digits-most}
+use lib.ListN.{length}
+use Rattle.laws.specs.Digits.{one-digit}
+use Rattle.text.proofs.Putting.{digits-sized}
 use Rattle.text.proofs.writer.digit_count.Statement.{statement}
 use Rattle.text.proofs.writer.digit_count.Tie as tie
 
-abbrev Inv-loop : tie.InvT-loop
-Inv-loop n rest₀ count₀ rest count = (rest ≤ n) × (n < 2 ^ 32) × (count + length (digits rest) ≡ length (digits n) + 1)
+returns : tie.Need-returns
+returns c = (sym (ap length (one-digit _ (omega arith))), omega arith)
 
-abbrev μ-loop : tie.MeasureT-loop
-μ-loop n rest₀ count₀ rest count = rest
+returns-2 : tie.Need-returns-2
+returns-2 c = (sym (digits-sized 1 _ (omega arith) (omega arith)), omega arith)
 
-loop-holds : tie.Need-loop-holds Inv-loop μ-loop
-loop-holds c = omega arith
+returns-3 : tie.Need-returns-3
+returns-3 c = (sym (digits-sized 2 _ (omega arith) (omega arith)), omega arith)
 
-add-count : tie.Need-add-count Inv-loop μ-loop
-add-count c = omega (arith, digits-most (c .before .before .args .n) (omega arith))
+returns-4 : tie.Need-returns-4
+returns-4 c = (sym (digits-sized 3 _ (omega arith) (omega arith)), omega arith)
 
-loop-less : tie.Need-loop-less Inv-loop μ-loop
-loop-less c = omega arith
+returns-5 : tie.Need-returns-5
+returns-5 c = (sym (digits-sized 4 _ (omega arith) (omega arith)), omega arith)
 
-loop-again : tie.Need-loop-again Inv-loop μ-loop
-loop-again c =
-    omega (arith, simp length-append at (ap length (last-digit (c .before .loop .rest) (c .loop-test .taken))))
+returns-6 : tie.Need-returns-6
+returns-6 c = (sym (digits-sized 5 _ (omega arith) (omega arith)), omega arith)
 
-returns : tie.Need-returns Inv-loop μ-loop
-returns c =
-    omega (
-      arith,
-      digits-most (c .before .before .args .n) (omega arith),
-      ap length (one-digit (c .before .loop .rest) (c .loop-test .left)),
-    )
+returns-7 : tie.Need-returns-7
+returns-7 c = (sym (digits-sized 6 _ (omega arith) (omega arith)), omega arith)
+
+returns-8 : tie.Need-returns-8
+returns-8 c = (sym (digits-sized 7 _ (omega arith) (omega arith)), omega arith)
+
+returns-9 : tie.Need-returns-9
+returns-9 c = (sym (digits-sized 8 _ (omega arith) (omega arith)), omega arith)
+
+returns-10 : tie.Need-returns-10
+returns-10 c = (sym (digits-sized 9 _ (omega arith) (omega arith)), omega arith)
 
 pub digit-count-spec : {M : Type 1} → statement M
 digit-count-spec =
-    tie.close (tie.spec Inv-loop μ-loop loop-holds add-count loop-less loop-again returns)
+    tie.close
+    (tie.spec
+    returns
+    returns-2
+    returns-3
+    returns-4
+    returns-5
+    returns-6
+    returns-7
+    returns-8
+    returns-9
+    returns-10)

@@ -9,7 +9,7 @@ use Rattle.text.proofs.writer.values_length.Statement.{statement}
 use Rattle.text.proofs.writer.values_length.Tie as tie
 
 abbrev Inv-loop : tie.InvT-loop
-Inv-loop part values sum₀ i₀ sum i = (length values ≤ 1024) × Measuring (partOf part) values sum i
+Inv-loop part values sum₀ i₀ sum i = (length values ≤ 512) × Measuring (partOf part) values sum i
 
 abbrev μ-loop : tie.MeasureT-loop
 μ-loop part values sum₀ i₀ sum i = length values - i

@@ -1,38 +1,48 @@
--- `text::reader::fill_values` meets its contract: the values that are done stand at the front of the list.
+-- `text::reader::read_rows` meets its contract: the values that are done, and what is left to read, make the whole.
 use borrow.Author.Needs.{needs}
-use Prim.Native.Nat.{ℕ, _-_}
-use native.Mathlib.Omega.{arith}
-use Rattle.text.specs.Parts.{partOf}
-use Rattle.text.proofs.Walking.{line-at, Filling, ready, goes-on, store, filled}
+use mathlib.Core.Path.{_≡_}
 use mathlib.Core.List.{List}
-use lib.ListN.{drop, length-drop}
+use Prim.Native.Nat.{ℕ, _+_, _*_, _-_, _≤_}
+use native.Mathlib.Omega.{arith}
+use lib.ListN.{length, drop, length-drop, length-set}
 use Rattle.rules.specs.Text.{key, lineValue}
 use Rattle.text.specs.declared.leaves.Found.the-variants.{Value}
 use Rattle.text.specs.Leaves.{Took}
-use Rattle.text.proofs.reader.fill_values.Statement.{statement}
-use Rattle.text.proofs.reader.fill_values.Tie as tie
+use Rattle.text.specs.Parts.{partOf}
+use Rattle.text.proofs.Walking.{line-at, Walking, begun, stopped, walked, ended}
+use Rattle.text.proofs.reader.read_rows.Statement.{statement}
+use Rattle.text.proofs.reader.read_rows.Tie as tie
 
 abbrev Inv-loop : tie.InvT-loop
-Inv-loop text part n from out₀ at₀ i₀ out at i = Filling (partOf part) n text from out₀ out i at
+Inv-loop text part count from first out₀ n at₀ line₀ i₀ out at line i =
+    (n ≡ count * partOf part .width)
+    × (n ≤ 512)
+    × (first ≤ 4096)
+    × (line ≡ first + i)
+    × (length out ≡ length out₀)
+    × Walking (partOf part) n text from first out i at
 
 abbrev μ-loop : tie.MeasureT-loop
-μ-loop text part n from out₀ at₀ i₀ out at i = n - i
+μ-loop text part count from first out₀ n at₀ line₀ i₀ out at line i = n - i
 
--- the loop and the function's entry, from the arm in which a value is found
+-- the loop, from the arm in which a value is found
 abbrev at-loop : tie.After-known-told Inv-loop μ-loop → tie.At-loop Inv-loop μ-loop
 at-loop c = c .before .before .before .before .before .before .before
 
 abbrev rest : tie.After-known-told Inv-loop μ-loop → List ℕ
-rest c = drop (at-loop c .loop .at) (c .before .before .before .before .before .before .before .before .before .before .args .text .now)
+rest c = drop (at-loop c .loop .at) (at-loop c .before .before .before .before .args .text .now)
 
 found-value : (c : tie.After-known-told Inv-loop μ-loop)
     → Took (lineValue (key (c .before .before .before .before .key-at .result)) (rest c)) (rest c) (Value (c .before .found .given .0 .0) (c .before .found .given .0 .1 .0))
 found-value c =
-    line-at (c .before .before .before .before .before .before .before .before .before .before .args .text .now) (at-loop c .loop .at) (c .before .before .before .before .key-at .result)
+    line-at (at-loop c .before .before .before .before .args .text .now) (at-loop c .loop .at) (c .before .before .before .before .key-at .result)
     (c .before .before .before .line-value .ensures) (c .before .found .given .1)
 
+values-requires : tie.Need-values-requires Inv-loop μ-loop
+values-requires c κs = search needs
+
 loop-holds : tie.Need-loop-holds Inv-loop μ-loop
-loop-holds c = ready _ _ _ _ _ (c .before .before .pre)
+loop-holds c = (c .values .ensures, omega arith, omega arith, omega arith, omega arith, begun _ _ _ _ _ _ (omega arith) (omega arith))
 
 sub-line-value : tie.Need-sub-line-value Inv-loop μ-loop
 sub-line-value c = search needs
@@ -61,9 +71,10 @@ same-length c = search needs
 returns : tie.Need-returns Inv-loop μ-loop
 returns c =
     let l = c .before .before .before .before .before .before in
-    goes-on (l .loop .inv) (omega arith) (c .before .before .before .key-at .ensures .0)
-    (line-at (c .before .before .before .before .before .before .before .before .before .args .text .now) (l .loop .at) (c .before .before .before .key-at .result)
-    (c .before .before .line-value .ensures) (c .enum-told .given .1))
+    rw (← l .loop .inv .0, l .loop .inv .3)
+    (stopped (l .loop .inv .5) (omega arith) (c .before .before .before .key-at .ensures .0)
+    (line-at (l .before .before .before .before .args .text .now) (l .loop .at) (c .before .before .before .key-at .result)
+    (c .before .before .line-value .ensures) (c .enum-told .given .1)))
 
 mul-out : tie.Need-mul-out Inv-loop μ-loop
 mul-out c = search needs
@@ -73,7 +84,10 @@ slice-write-out c = search needs
 
 add-at : tie.Need-add-at Inv-loop μ-loop
 add-at c =
-    omega (arith, length-drop (at-loop c .loop .at) (c .before .before .before .before .before .before .before .before .before .before .args .text .now), found-value c .within)
+    omega (arith, length-drop (at-loop c .loop .at) (at-loop c .before .before .before .before .args .text .now), found-value c .within)
+
+add-line : tie.Need-add-line Inv-loop μ-loop
+add-line c = search needs
 
 add-i : tie.Need-add-i Inv-loop μ-loop
 add-i c = search needs
@@ -83,20 +97,28 @@ loop-less c = search needs
 
 loop-again : tie.Need-loop-again Inv-loop μ-loop
 loop-again c =
-    store (at-loop c .loop .inv) (omega arith) (c .before .before .before .before .key-at .ensures .0) (found-value c)
+    let inv = at-loop c .loop .inv in
+    (inv .0, inv .1, inv .2, omega arith, rw length-set (inv .4), walked (inv .5) (omega arith) (c .before .before .before .before .key-at .ensures .0) (found-value c))
 
 same-length-2 : tie.Need-same-length-2 Inv-loop μ-loop
 same-length-2 c = search needs
 
 returns-2 : tie.Need-returns-2 Inv-loop μ-loop
-returns-2 c = filled (c .before .loop .inv) (c .loop-test .left)
+returns-2 c =
+    let inv = c .before .loop .inv in
+    record {
+      given = rw (← inv .0, inv .3) (ended (inv .5) (omega arith));
+      room = omega (arith, inv .5 .room, inv .0);
+      within = inv .5 .within;
+    }
 
-pub fill-values-spec : {M : Type 1} → statement M
-fill-values-spec =
+pub read-rows-spec : {M : Type 1} → statement M
+read-rows-spec =
     tie.close
     (tie.spec
     Inv-loop
     μ-loop
+    values-requires
     loop-holds
     sub-line-value
     part-line-value-start
@@ -110,6 +132,7 @@ fill-values-spec =
     mul-out
     slice-write-out
     add-at
+    add-line
     add-i
     loop-less
     loop-again

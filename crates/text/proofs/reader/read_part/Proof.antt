@@ -1,9 +1,9 @@
--- `text::reader::judge_part` meets its contract, by what its first line says.
+-- `text::reader::read_part` meets its contract, by what its first line says.
 use borrow.Author.Needs.{needs}
 use mathlib.Core.Path.{_≡_, sym, _∙_, ap}
 use mathlib.Core.Bool.{true}
-use Prim.Native.Nat.{ℕ, _+_, _≤_}
 use mathlib.Core.List.{List}
+use Prim.Native.Nat.{ℕ, _+_, _≤_}
 use native.Mathlib.Omega.{arith}
 use borrow.Author.Tests.{not-true, not-false}
 use lib.ListN.{length, drop}
@@ -12,23 +12,15 @@ use Rattle.rules.specs.Text.{key, lineValue}
 use Rattle.text.specs.declared.leaves.Found.the-variants.{Value}
 use Rattle.text.specs.Leaves.{Took}
 use Rattle.text.specs.Parts.{partOf}
-use Rattle.text.proofs.Rows.{few-rows}
+use Rattle.text.proofs.Rows.{few-rows, few-most}
 use Rattle.text.proofs.Walking.{line-at, part-stops, count-within, part-wrong, part-rows}
-use Rattle.text.proofs.reader.judge_part.Statement.{statement}
-use Rattle.text.proofs.reader.judge_part.Tie as tie
-
-sub-line-value : tie.Need-sub-line-value
-sub-line-value c = search needs
-
-part-line-value-start : tie.Need-part-line-value-start
-part-line-value-start c = search needs
-
-part-line-value-end : tie.Need-part-line-value-end
-part-line-value-end c = search needs
+use borrow.Author.Needs.{needs}
+use Rattle.text.proofs.reader.read_part.Statement.{statement}
+use Rattle.text.proofs.reader.read_part.Tie as tie
 
 -- the function's entry, and the count that is found
 abbrev start : tie.After-known-told → tie.Start
-start c = c .before .before .before .before .before .before .before
+start c = c .before .before .before .before .before .before .before .before
 
 abbrev rest : tie.After-known-told → List ℕ
 rest c = drop (start c .args .from) (start c .args .text .now)
@@ -46,6 +38,15 @@ in-text c =
 
 right : (c : tie.Else1) → let k = c .before .before in partOf (start k .args .part) .right (k .before .found .given .0 .0) ≡ true
 right c = sym (c .before .right .ensures) ∙ not-false _ (c .if1 .left)
+
+sub-line-value : tie.Need-sub-line-value
+sub-line-value c = search needs
+
+part-line-value-start : tie.Need-part-line-value-start
+part-line-value-start c = search needs
+
+part-line-value-end : tie.Need-part-line-value-end
+part-line-value-end c = search needs
 
 head-requires : tie.Need-head-requires
 head-requires c κs = search needs
@@ -76,34 +77,39 @@ returns c =
     (sym (c .before .before .right .ensures) ∙ not-true _ (c .before .if1 .taken))
     ∙ ap refused (sym (c .refusal .ensures))
 
-add-judge-rows : tie.Need-add-judge-rows
-add-judge-rows c =
-    omega (arith, in-text (c .before .before))
+add-read-rows : tie.Need-add-read-rows
+add-read-rows c = omega (arith, in-text (c .before .before))
 
-add-judge-rows-2 : tie.Need-add-judge-rows-2
-add-judge-rows-2 c = search needs
+add-read-rows-2 : tie.Need-add-read-rows-2
+add-read-rows-2 c = search needs
 
-judge-rows-requires : tie.Need-judge-rows-requires
-judge-rows-requires c κs =
-    let k = c .before .before in
-    (in-text k, few-rows (start k .args .part) _ (right c), omega arith)
+read-rows-requires : tie.Need-read-rows-requires
+read-rows-requires c κs =
+    let k = c .before .before .before in
+    let p = start k .args .part in
+    let f = few-rows p _ (right (c .before)) in
+    ((in-text k, omega (arith, f, few-most p), omega arith), omega (arith, f, start k .pre .2))
 
 returns-2 : tie.Need-returns-2
 returns-2 c =
-    let a = c .before .before .before .before .before .before .args in
+    let a = c .before .before .before .before .before .before .before .args in
     let h = c .before .before .before .head in
     part-stops (partOf (a .part)) (h .ensures .0) (a .text .now) (a .from) (a .line)
     (line-at (a .text .now) (a .from) (h .result) (c .before .before .line-value .ensures) (c .enum-told .given .1))
 
+same-length : tie.Need-same-length
+same-length c = search needs
+
 returns-3 : tie.Need-returns-3
 returns-3 c =
-    let k = c .before .before .before in
+    let r = c .before .before .before .before in
+    let k = r .before .before in
     let a = start k .args in
-    rw (part-rows (partOf (a .part)) (k .before .before .before .before .head .ensures .0) (a .text .now) (a .from) (a .line) (count k) (right (c .before)))
-    (c .judge-rows .ensures)
+    rw (part-rows (partOf (a .part)) (k .before .before .before .before .head .ensures .0) (a .text .now) (a .from) (a .line) (count k) (right r))
+    (c .before .before .read-rows .ensures)
 
-pub judge-part-spec : {M : Type 1} → statement M
-judge-part-spec =
+pub read-part-spec : {M : Type 1} → statement M
+read-part-spec =
     tie.close
     (tie.spec
     sub-line-value
@@ -117,8 +123,9 @@ judge-part-spec =
     right-requires
     refusal-requires
     returns
-    add-judge-rows
-    add-judge-rows-2
-    judge-rows-requires
+    add-read-rows
+    add-read-rows-2
+    read-rows-requires
     returns-2
+    same-length
     returns-3)
