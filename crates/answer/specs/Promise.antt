@@ -1,21 +1,20 @@
 -- What `answer` promises for every text and every lent list: 01's program's output, or 11 and nothing written.
 use mathlib.Core.Path.{_≡_, refl, sym, _∙_}
-use mathlib.Core.Bool.{Bool, true, false, cond}
+use mathlib.Core.Bool.{Bool, true}
 use mathlib.Core.List.{List}
-use Prim.Native.Nat.{ℕ, _+_, _≤_, _<_}
-use native.Mathlib.Nat.{zero-add}
+use Prim.Native.Nat.{ℕ, _≤_, _<_}
 use native.Mathlib.Omega.{arith}
 use lib.Dec.{leb}
 use lib.ListN.{length}
+use borrow.Author.Tests.{le-leb, lt-leb}
 use Rattle.rules.specs.Refusals.{Outcome, gives, andThen, unless, demand, room}
 use Rattle.rules.specs.Output as rules
 use Rattle.rules.specs.declared.Refusal.the-variants.{Room}
 use Rattle.laws.specs.Tests.{Says, so, not-so, le-says}
-use Rattle.text.specs.Put.{put}
-use Rattle.text.specs.Pieces.{put-front}
-use Rattle.text.specs.Promises.{afterwards, writingSays, fits, Puts}
+use Rattle.lines.specs.Put.{put}
+use Rattle.lines.specs.Pieces.{put-front}
+use Rattle.text.specs.Promises.{afterwards, writingSays}
 use Rattle.text.specs.Theorems.{writing-settles}
-use Rattle.text.specs.declared.Put.the-variants.{End, Short}
 use Rattle.text.specs.declared.Writing.{Writing}
 use Rattle.text.specs.declared.Writing.the-variants.{Bytes, Refused}
 
@@ -38,26 +37,17 @@ answer-settled {r₁ = r₁} {r₂ = r₂} u v =
 -- ---- laws for the code: the lines are put at the front, or there is no room
 
 module _ (text out out′ : List ℕ) where
-  fitting : fits (rules.answer text) out 0 ≡ leb (length (rules.answer text)) (length out)
-  fitting = rw (zero-add (length (rules.answer text))) refl
-
-  pub prints-short : Puts (rules.answer text) out 0 out′ Short → Prints text out out′ (Refused Room)
+  pub prints-short : length out < length (rules.answer text) → out′ ≡ out → Prints text out out′ (Refused Room)
   unfolding answerInto
-  prints-short p = go (leb (length (rules.answer text)) (length out)) refl (rw fitting at (p .answer)) (rw fitting at (p .left))
-    where
-      go : (b : Bool) → leb (length (rules.answer text)) (length out) ≡ b → Short ≡ cond b (End (0 + length (rules.answer text))) Short
-          → out′ ≡ cond b (put out 0 (rules.answer text)) out → Prints text out out′ (Refused Room)
-      go true e a l = let z : _≡_ {A = ℕ} 0 1 = cc in absurd (omega arith)
-      go false e a l = record { answer = rw e refl; out-left = rw e l }
+  prints-short h e =
+      record { answer = rw (lt-leb (length (rules.answer text)) (length out) h) refl; out-left = rw (lt-leb (length (rules.answer text)) (length out) h) e }
 
-  pub prints-whole : (n e : ℕ) → n ≡ length (rules.answer text) → Puts (rules.answer text) out 0 out′ (End e) → Prints text out out′ (Bytes n)
+  pub prints-whole : (n : ℕ) → n ≡ length (rules.answer text) → n ≤ length out → out′ ≡ put out 0 (rules.answer text)
+      → Prints text out out′ (Bytes n)
   unfolding answerInto
-  prints-whole n e q p = go (leb (length (rules.answer text)) (length out)) refl (rw fitting at (p .answer)) (rw fitting at (p .left))
-    where
-      go : (b : Bool) → leb (length (rules.answer text)) (length out) ≡ b → End e ≡ cond b (End (0 + length (rules.answer text))) Short
-          → out′ ≡ cond b (put out 0 (rules.answer text)) out → Prints text out out′ (Bytes n)
-      go true b a l = record { answer = rw (b, q) refl; out-left = rw b (l ∙ put-front out (rules.answer text)) }
-      go false b a l = let z : _≡_ {A = ℕ} 0 1 = cc in absurd (omega arith)
+  prints-whole n q h l =
+      let e : leb (length (rules.answer text)) (length out) ≡ true = le-leb (length (rules.answer text)) (length out) (omega arith) in
+      record { answer = rw (e, q) refl; out-left = rw e (l ∙ put-front out (rules.answer text)) }
 
   -- what is written is within the lent bytes
   pub bytes-fit : (n : ℕ) → Prints text out out′ (Bytes n) → n ≤ length out

@@ -1,8 +1,8 @@
 // The whole program as one function: a table's text in, the lines of its run out.
 use dispatch::Reached;
+use lines::writer::put_bytes;
 use plan::Planned;
 use rules::Refusal;
-use text::Put;
 use text::Reading;
 use text::Writing;
 ghost use mathlib.Core.Path.{_≡_};
@@ -14,7 +14,7 @@ ghost use Rattle.rules.specs.Run.{endState};
 ghost use Rattle.rules.specs.Output as rules;
 ghost use Rattle.rules.specs.Output.{report, printed};
 ghost use Rattle.rules.specs.Lists.{table, plan};
-ghost use Rattle.text.specs.Put.{Over};
+ghost use Rattle.lines.specs.Put.{Over};
 ghost use Rattle.answer.specs.Promise.{Prints};
 
 // The most bytes that are printed: 64 jobs, and ten digits for each number.
@@ -97,9 +97,9 @@ pub fn answer(text: &[u8], out: &mut [u8]) -> Writing
 {
     let mut page = [0u8; PAGE];
     let n = print_text(&mut page, text);
-    let put = text::put_word(out, 0, &page[..n]);
-    match put {
-        Put::End(_) => Writing::Bytes(n),
-        Put::Short => Writing::Refused(Refusal::Room),
+    if out.len() < n {
+        return Writing::Refused(Refusal::Room);
     }
+    put_bytes(out, 0, &page[..n]);
+    Writing::Bytes(n)
 }

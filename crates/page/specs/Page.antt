@@ -7,30 +7,16 @@ use native.Mathlib.Omega.{arith}
 use lib.IntN.{subℕ}
 use lib.ListN.{length, take, drop}
 use lib.Seq.{take-at}
-use borrow.Author.Tests.{le-leb, le-ltb, lt-ltb, eq-eqb, ne-eqb}
+use borrow.Author.Tests.{le-ltb, lt-ltb, eq-eqb, ne-eqb}
 use Rattle.rules.specs.Table.{Plan, State}
 use Rattle.rules.specs.Text.{bytesOf, digits}
 use Rattle.rules.specs.Run.{lateness}
 use Rattle.rules.specs.Output.{signed, markWord, jobLines, jobsLines, report}
 use Rattle.rules.specs.Lists.{plan, timed, state}
-use Rattle.text.specs.Put.{Over}
-use Rattle.text.specs.Pieces.{two, put-none, put-front}
-use Rattle.text.specs.Promises.{Puts}
-use Rattle.text.specs.declared.Put.the-variants.{End, Short}
+use Rattle.lines.specs.Put.{Over}
+use Rattle.lines.specs.Pieces.{two, put-none, put-front}
 
 -- ---- words
-
--- what was put, where the answer is its end
-pub put-over : {vs o : List ℕ} {at : ℕ} {o′ : List ℕ} {r : ℕ} → at + length vs ≤ length o → Puts vs o at o′ (End r) → Over o at vs o′ r
-put-over {vs} {o} {at} {o′} {r} h p =
-    let e : End r ≡ End (at + length vs) = rw (le-leb (at + length vs) (length o) h) at (p .answer) in
-    record { end = cc; list = rw (le-leb (at + length vs) (length o) h) at (p .left) }
-
--- where there is room, it is not short
-pub put-never-short : {A : Type 0} {vs o : List ℕ} {at : ℕ} {o′ : List ℕ} → at + length vs ≤ length o → Puts vs o at o′ Short → A
-put-never-short {A} {vs} {o} {at} h p =
-    let e : Short ≡ End (at + length vs) = rw (le-leb (at + length vs) (length o) h) at (p .answer) in
-    let z : _≡_ {A = ℕ} 0 1 = cc in absurd (omega arith)
 
 -- one after the other
 pub next : {o : List ℕ} {at : ℕ} {xs o₁ : List ℕ} {p : ℕ} {ys o₂ : List ℕ} {r : ℕ} → Over o at xs o₁ p → p ≤ length o → Over o₁ p ys o₂ r

@@ -6,33 +6,18 @@ ghost use lib.ListN.{length};
 ghost use Rattle.rules.specs.Text.{bytesOf, digits, line, lf};
 ghost use Rattle.rules.specs.Refusals.{faultOf};
 ghost use Rattle.rules.specs.Output.{signed, markWord, jobLines, jobsLines, report, refusalLines};
-ghost use Rattle.text.specs.Put.{Over};
+ghost use Rattle.lines.specs.Put.{Over};
 ghost use Rattle.rules.specs.Lists.{timed, state};
+use lines::writer::put_bytes;
+use lines::writer::put_number;
 use rules::Refusal;
-use text::Put;
 
-// Bytes, written from `at` on.
-fn word(page: &mut [u8], at: usize, bytes: &[u8]) -> usize
-    requires { ⌜ at + length (now bytes) ≤ length (now page) ⌝ }
-    ensures { λ r. ⌜ Over (now (page .entry)) at (now (bytes .entry)) (now (page .exit)) r ⌝ }
-{
-    let put = text::put_word(page, at, bytes);
-    match put {
-        Put::End(end) => end,
-        Put::Short => at,
-    }
-}
-
-// The digits of n, written from `at` on.
+// The digits of n, at most ten, written from `at` on.
 fn number(page: &mut [u8], at: usize, n: u32) -> usize
     requires { ⌜ at + 10 ≤ length (now page) ⌝ }
     ensures { λ r. ⌜ Over (now (page .entry)) at (digits n) (now (page .exit)) r × (r ≤ at + 10) ⌝ }
 {
-    let put = text::put_digits(page, at, n);
-    match put {
-        Put::End(end) => end,
-        Put::Short => at,
-    }
+    put_number(page, at, n)
 }
 
 // The line of a key and a value.
@@ -40,9 +25,9 @@ fn put_line(page: &mut [u8], at: usize, key: &[u8], value: u32) -> usize
     requires { ⌜ at + length (now key) + 11 ≤ length (now page) ⌝ }
     ensures { λ r. ⌜ Over (now (page .entry)) at (line (now (key .entry)) value) (now (page .exit)) r × (r ≤ at + length (now (key .entry)) + 11) ⌝ }
 {
-    let at = word(page, at, key);
+    let at = put_bytes(page, at, key);
     let at = number(page, at, value);
-    word(page, at, b"\n")
+    put_bytes(page, at, b"\n")
 }
 
 // How late a job ended, with a minus sign when early.
@@ -53,7 +38,7 @@ fn late(page: &mut [u8], at: usize, finish: u32, deadline: u32) -> usize
     if deadline <= finish {
         return number(page, at, finish - deadline);
     }
-    let at = word(page, at, b"-");
+    let at = put_bytes(page, at, b"-");
     number(page, at, deadline - finish)
 }
 
@@ -62,9 +47,9 @@ fn late_line(page: &mut [u8], at: usize, finish: u32, deadline: u32) -> usize
     requires { ⌜ at + 21 ≤ length (now page) ⌝ }
     ensures { λ r. ⌜ Over (now (page .entry)) at (bytesOf "lateness=" ++ (signed (subℕ finish deadline) ++ (lf ∷ []))) (now (page .exit)) r × (r ≤ at + 21) ⌝ }
 {
-    let at = word(page, at, b"lateness=");
+    let at = put_bytes(page, at, b"lateness=");
     let at = late(page, at, finish, deadline);
-    word(page, at, b"\n")
+    put_bytes(page, at, b"\n")
 }
 
 // The line of a job's mark, in words.
@@ -73,9 +58,9 @@ fn mark_line(page: &mut [u8], at: usize, mark: u32) -> usize
     ensures { λ r. ⌜ Over (now (page .entry)) at (bytesOf "mark=" ++ (markWord mark ++ (lf ∷ []))) (now (page .exit)) r × (r ≤ at + 11) ⌝ }
 {
     if mark == 2 {
-        return word(page, at, b"mark=stale\n");
+        return put_bytes(page, at, b"mark=stale\n");
     }
-    word(page, at, b"mark=fresh\n")
+    put_bytes(page, at, b"mark=fresh\n")
 }
 
 // The five lines of a job.

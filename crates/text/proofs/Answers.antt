@@ -16,12 +16,12 @@ use Rattle.rules.specs.declared.Refusal.{Refusal}
 use Rattle.rules.specs.declared.Refusal.the-variants.{Jobs, Arcs, Sections, Room}
 use Rattle.laws.specs.Text.{lengthRight, countFault, count-fault, counted-is}
 use Rattle.text.specs.declared.Writing.the-variants.{Refused, Bytes}
-use Rattle.text.specs.Put.{Over}
+use Rattle.lines.specs.Put.{Over}
 use Rattle.text.specs.Passes.{TableCounted, textFrom, fronts, Fronts}
 use Rattle.text.specs.declared.Reading.{Reading}
 use Rattle.text.specs.declared.Reading.the-variants.{Counts}
 use Rattle.text.specs.Promises.{readInto, rowsOf, Reads, writeInto, Writes}
-use Rattle.text.specs.Pieces.{put-front}
+use Rattle.lines.specs.Pieces.{put-front}
 
 -- ---- write
 

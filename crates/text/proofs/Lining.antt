@@ -8,8 +8,8 @@ use lib.ListN.{length, getD, drop, drop-of-length-le, length-append}
 use lib.Seq.{drop-cons}
 use Rattle.rules.specs.Text.{Part, key, keyAt, line, valueLines}
 use Rattle.laws.specs.Text.{lines-none, lines-more}
-use Rattle.text.specs.Put.{put, Over}
-use Rattle.text.specs.Pieces.{put-none, put-put}
+use Rattle.lines.specs.Put.{put, Over}
+use Rattle.lines.specs.Pieces.{put-none, put-put}
 
 -- the lines from value i on
 abbrev pub linesFrom : Part → List ℕ → ℕ → List ℕ

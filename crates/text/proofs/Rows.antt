@@ -14,9 +14,9 @@ use Rattle.laws.specs.Text.{lengthRight, Counted, part-text, text-of}
 use Rattle.text.specs.declared.parts.Part.{Part}
 use Rattle.text.specs.declared.parts.Part.the-variants.{Jobs, Arcs, Sections}
 use Rattle.text.specs.Parts.{partOf, mostValues}
-use Rattle.text.specs.Put.{Over}
+use Rattle.lines.specs.Put.{Over}
 use Rattle.text.specs.Passes.{textFrom}
-use Rattle.text.specs.Pieces.{two}
+use Rattle.lines.specs.Pieces.{two}
 
 -- by the width that the code has
 pub whole-rows : (b : rules.Part) (w n : ℕ) → w ≡ b .width → n % w ≡ 0 → b .right (n / w) ≡ lengthRight b n

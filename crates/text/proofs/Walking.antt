@@ -10,10 +10,10 @@ use lib.Seq.{drop-drop, take-suc-set}
 use Rattle.rules.specs.Refusals.{Fault, fault, Outcome, refused, gives}
 use Rattle.rules.specs.Text.{Part, key, Front, lineValue, Taken, prepend, readValues, readPart}
 use Rattle.laws.specs.Text.{taken, values-more, values-none, onLine, part-read, onCount}
-use Rattle.text.specs.declared.leaves.Found.{Found}
-use Rattle.text.specs.declared.leaves.Found.the-variants.{Value, Stopped}
-use Rattle.text.specs.Leaves.{Took}
-use Rattle.text.proofs.Lists.{rest-is}
+use Rattle.lines.specs.declared.leaves.Found.{Found}
+use Rattle.lines.specs.declared.leaves.Found.the-variants.{Value, Stopped}
+use Rattle.lines.specs.Leaves.{Took}
+use Rattle.lines.specs.Pieces.{rest-is}
 
 -- values before what is read
 abbrev before : List ℕ → Outcome Taken → Outcome Taken

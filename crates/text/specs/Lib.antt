@@ -1,8 +1,5 @@
 -- What the reader and the writer of a table's text promise, and what their parts do.
 pub mod Parts
-pub mod Put
-pub mod Pieces
-pub mod Leaves
 pub mod Promises
 pub mod Passes
 pub mod Theorems

@@ -2,10 +2,7 @@
 use mathlib.Core.Path.{_≡_}
 use mathlib.Core.List.{List, [], _∷_, _++_}
 use mathlib.Core.Option.{Option}
-use mathlib.Core.Bool.{Bool, cond}
-use Prim.Native.Nat.{ℕ, _+_, _≤_, _<_}
-use lib.Dec.{leb}
-use borrow.Author.Tests.{le-leb, lt-leb}
+use Prim.Native.Nat.{ℕ, _+_}
 use lib.ListN.{length, drop}
 use Rattle.rules.specs.Table.{Table, jobCount, arcCount, sectionCount}
 use Rattle.rules.specs.Refusals.{Fault, faultOf, Outcome, refused, gives, andThen, firstOf, unless, countFaults, room}
@@ -13,9 +10,6 @@ use Rattle.rules.specs.Text as rules
 use Rattle.rules.specs.Text.{textOf}
 use Rattle.text.specs.declared.Reading.{Reading}
 use Rattle.text.specs.declared.Reading.the-variants.{Refused, Counts}
-use Rattle.text.specs.Put.{put, Over}
-use Rattle.text.specs.declared.Put.{Put}
-use Rattle.text.specs.declared.Put.the-variants.{End, Short}
 use Rattle.text.specs.declared.Writing.{Writing}
 use Rattle.text.specs.declared.Writing.the-variants.{Bytes}
 
@@ -82,21 +76,3 @@ pub record Writes (jobs arcs sections out out′ : List ℕ) (r : Writing) : Typ
   pub answer : writingSays r
       ≡ andThen (writeInto (record { jobs = jobs; arcs = arcs; sections = sections }) out) (λ text. gives (length text))
   pub out-left : out′ ≡ afterwards (writeInto (record { jobs = jobs; arcs = arcs; sections = sections }) out) (λ text. text) out
-
--- ---- put
-
--- the bytes stand within the list, from `at` on
-abbrev pub fits : List ℕ → List ℕ → ℕ → Bool
-fits vs o at = leb (at + length vs) (length o)
-
--- Bytes, the list as it is lent, the place, the list as it is left, and the answer: all of the bytes go over the list from that
--- place on, or nothing is written.
-pub record Puts (vs o : List ℕ) (at : ℕ) (o′ : List ℕ) (r : Put) : Type 0 where
-  pub answer : r ≡ cond (fits vs o at) (End (at + length vs)) Short
-  pub left : o′ ≡ cond (fits vs o at) (put o at vs) o
-
-pub puts-short : (vs o : List ℕ) (at : ℕ) → length o < at + length vs → Puts vs o at o Short
-puts-short vs o at h = record { answer = rw (lt-leb _ _ h); left = rw (lt-leb _ _ h) }
-
-pub puts-over : {vs o : List ℕ} {at : ℕ} {o′ : List ℕ} {r : ℕ} → at + length vs ≤ length o → Over o at vs o′ r → Puts vs o at o′ (End r)
-puts-over h p = record { answer = rw (le-leb _ _ h, p .end); left = rw (le-leb _ _ h, p .list) }

@@ -35,7 +35,6 @@ use Rattle.laws.specs.Text.{Right, counts-is, TextOf, read-back, read-is}
 use Rattle.laws.specs.Lines.{RightText, FirstWrong, refused-at, right-none, from-one, one-first}
 use Rattle.text.specs.declared.Reading.{Reading}
 use Rattle.text.specs.declared.Reading.the-variants.{Refused, Counts}
-use Rattle.text.specs.declared.Put.{Put}
 use Rattle.text.specs.declared.Writing.{Writing}
 use Rattle.text.specs.declared.Writing.the-variants.{Bytes}
 use Rattle.text.specs.Promises.{
@@ -49,7 +48,6 @@ use Rattle.text.specs.Promises.{
   writeInto,
   writingSays,
   Writes,
-  Puts,
 }
 
 -- ---- nothing is left open
@@ -84,11 +82,6 @@ pub write-settled : {jobs arcs sections out out₁ out₂ : List ℕ} {r₁ r₂
     → Writes jobs arcs sections out out₁ r₁ → Writes jobs arcs sections out out₂ r₂ → (r₁ ≡ r₂) × (out₁ ≡ out₂)
 write-settled {r₁ = r₁} {r₂ = r₂} u v =
     (writing-settles r₁ r₂ (u .answer ∙ sym (v .answer)), u .out-left ∙ sym (v .out-left))
-
--- And so for what is put into a list: where it ends, and all of the list.
-pub put-settled : {vs out out₁ out₂ : List ℕ} {at : ℕ} {r₁ r₂ : Put} → Puts vs out at out₁ r₁ → Puts vs out at out₂ r₂
-    → (r₁ ≡ r₂) × (out₁ ≡ out₂)
-put-settled u v = (u .answer ∙ sym (v .answer), u .left ∙ sym (v .left))
 
 -- ---- they undo one another
 

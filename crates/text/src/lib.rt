@@ -1,11 +1,8 @@
 // A table's text: read into three lent lists, and written into lent bytes.
-ghost use Rattle.rules.specs.Text.{digits};
-ghost use Rattle.text.specs.Promises.{Reads, Writes, Puts};
+ghost use Rattle.text.specs.Promises.{Reads, Writes};
 use parts::Part;
 use rules::Refusal;
 
-mod keys;
-mod leaves;
 mod parts;
 mod reader;
 mod writer;
@@ -73,36 +70,4 @@ pub fn write(jobs: &[u32], arcs: &[u32], sections: &[u32], out: &mut [u8]) -> Wr
     }
     writer::put_text(out, jobs, arcs, sections);
     Writing::Bytes(needed)
-}
-
-// What a put answers: the place after what was written, or that there is no room for it.
-pub enum Put {
-    End(usize),
-    Short,
-}
-
-// Bytes, written from `at` on, where there is room for all of them.
-pub fn put_word(out: &mut [u8], at: usize, word: &[u8]) -> Put
-    ensures { λ r. ⌜ Puts (now (word .entry)) (now (out .entry)) at (now (out .exit)) r ⌝ }
-{
-    if out.len() < at {
-        return Put::Short;
-    }
-    if out.len() - at < word.len() {
-        return Put::Short;
-    }
-    Put::End(writer::put_bytes(out, at, word))
-}
-
-// The digits of n, written from `at` on, where there is room for all of them.
-pub fn put_digits(out: &mut [u8], at: usize, n: u32) -> Put
-    ensures { λ r. ⌜ Puts (digits n) (now (out .entry)) at (now (out .exit)) r ⌝ }
-{
-    if out.len() < at {
-        return Put::Short;
-    }
-    if out.len() - at < writer::digit_count(n) {
-        return Put::Short;
-    }
-    Put::End(writer::put_number(out, at, n))
 }

@@ -7,9 +7,9 @@ ghost use Rattle.rules.specs.Text.{readValues, readPart};
 ghost use Rattle.text.specs.Parts.{partOf, mostValues};
 ghost use Rattle.text.specs.Passes.{ReadsPart, ReadsText};
 use crate::Reading;
-use crate::leaves;
-use crate::leaves::Found;
 use crate::parts::Part;
+use lines::leaves;
+use lines::leaves::Found;
 use rules::Refusal;
 
 // What reading a part comes to: how many rows it has, the place after it and the number of the line there; or a refusal.

@@ -6,7 +6,7 @@ use native.Mathlib.Omega.{arith}
 use lib.ListN.{length}
 use borrow.Author.Needs.{needs}
 use Rattle.rules.specs.Output.{jobsLines}
-use Rattle.text.specs.Put.{Over}
+use Rattle.lines.specs.Put.{Over}
 use Rattle.rules.specs.Lists.{timed, state}
 use Rattle.page.specs.Page.{next, nothing, jobs-none, jobs-more}
 use Rattle.page.proofs.jobs_lines.Statement.{statement}

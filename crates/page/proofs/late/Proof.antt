@@ -17,11 +17,11 @@ returns c =
     let a = c .before .before .before .before .before .before .args in
     (rw (not-early (a .finish) (a .deadline) (omega arith)) (c .before .before .number .ensures .0), omega arith)
 
-slice-aggregate-word : tie.Need-slice-aggregate-word
-slice-aggregate-word c = search needs
+slice-aggregate-put-bytes : tie.Need-slice-aggregate-put-bytes
+slice-aggregate-put-bytes c = search needs
 
-word-requires : tie.Need-word-requires
-word-requires c κs = search needs
+put-bytes-requires : tie.Need-put-bytes-requires
+put-bytes-requires c κs = search needs
 
 sub-number : tie.Need-sub-number
 sub-number c = search needs
@@ -35,8 +35,8 @@ same-length-2 c = search needs
 returns-2 : tie.Need-returns-2
 unfolding bytesOf
 returns-2 c = (
-  rw (early (c .before .before .before .before .before .before .before .before .before .before .before .args .finish) (c .before .before .before .before .before .before .before .before .before .before .before .args .deadline) (omega arith)) (next (c .before .before .before .before .before .before .word .ensures) (omega (arith, c .before .before .before .before .before .before .word .ensures .end)) (c .before .before .number2 .ensures .0)),
-  omega (arith, c .before .before .before .before .before .before .word .ensures .end),
+  rw (early (c .before .before .before .before .before .before .before .before .before .before .before .args .finish) (c .before .before .before .before .before .before .before .before .before .before .before .args .deadline) (omega arith)) (next (c .before .before .before .before .before .before .put-bytes .ensures) (omega (arith, c .before .before .before .before .before .before .put-bytes .ensures .end)) (c .before .before .number2 .ensures .0)),
+  omega (arith, c .before .before .before .before .before .before .put-bytes .ensures .end),
 )
 
 pub late-spec : {M : Type 1} → statement M
@@ -46,8 +46,8 @@ late-spec =
     number-requires
     same-length
     returns
-    slice-aggregate-word
-    word-requires
+    slice-aggregate-put-bytes
+    put-bytes-requires
     sub-number
     number-requires-2
     same-length-2

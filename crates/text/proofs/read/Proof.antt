@@ -9,7 +9,6 @@ use lib.Dec.{leb}
 use lib.ListN.{length}
 use Rattle.text.specs.Passes.{Fronts}
 use Rattle.text.proofs.Answers.{text-refused, lacks-jobs, lacks-arcs, lacks-sections, reads}
-use borrow.Author.Needs.{needs}
 use Rattle.text.proofs.read.Statement.{statement}
 use Rattle.text.proofs.read.Tie as tie
 

@@ -9,12 +9,11 @@ use borrow.Author.Tests.{not-true, not-false}
 use lib.ListN.{length, drop}
 use Rattle.rules.specs.Refusals.{refused}
 use Rattle.rules.specs.Text.{key, lineValue}
-use Rattle.text.specs.declared.leaves.Found.the-variants.{Value}
-use Rattle.text.specs.Leaves.{Took}
+use Rattle.lines.specs.declared.leaves.Found.the-variants.{Value}
+use Rattle.lines.specs.Leaves.{Took}
 use Rattle.text.specs.Parts.{partOf}
 use Rattle.text.proofs.Rows.{few-rows, few-most}
 use Rattle.text.proofs.Walking.{line-at, part-stops, count-within, part-wrong, part-rows}
-use borrow.Author.Needs.{needs}
 use Rattle.text.proofs.reader.read_part.Statement.{statement}
 use Rattle.text.proofs.reader.read_part.Tie as tie
 

@@ -6,8 +6,8 @@ use Prim.Native.Nat.{ℕ, _+_, _*_, _-_, _≤_}
 use native.Mathlib.Omega.{arith}
 use lib.ListN.{length, drop, length-drop, length-set}
 use Rattle.rules.specs.Text.{key, lineValue}
-use Rattle.text.specs.declared.leaves.Found.the-variants.{Value}
-use Rattle.text.specs.Leaves.{Took}
+use Rattle.lines.specs.declared.leaves.Found.the-variants.{Value}
+use Rattle.lines.specs.Leaves.{Took}
 use Rattle.text.specs.Parts.{partOf}
 use Rattle.text.proofs.Walking.{line-at, Walking, begun, stopped, walked, ended}
 use Rattle.text.proofs.reader.read_rows.Statement.{statement}

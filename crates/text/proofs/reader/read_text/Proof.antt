@@ -8,7 +8,6 @@ use Rattle.rules.specs.Text.{jobPart, arcPart, sectionPart, readPart}
 use Rattle.text.specs.declared.parts.Part.the-variants.{Jobs, Arcs}
 use Rattle.text.specs.Passes.{Gives}
 use Rattle.text.proofs.Whole.{next-line, jobs-refused, arcs-refused, sections-refused, left-over, whole}
-use borrow.Author.Needs.{needs}
 use Rattle.text.proofs.reader.read_text.Statement.{statement}
 use Rattle.text.proofs.reader.read_text.Tie as tie
 
