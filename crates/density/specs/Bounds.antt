@@ -20,6 +20,7 @@ module _ (jobs arcs sections times : List ℕ) (e : planInBounds (plan jobs arcs
           pairs = omega arith;
           some = λ j l. omega (arith, bounds-times (plan jobs arcs sections times) e j l .window, rows .job-in j l .costs);
         };
+        most = λ j l. omega (arith, bounds-times (plan jobs arcs sections times) e j l .deadline-in);
         costs = λ j l. rows .job-in j l .cost-in;
       }
 

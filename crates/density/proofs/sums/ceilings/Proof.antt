@@ -1,0 +1,120 @@
+-- The loop has the smallest span of the sections passed, for each resource.
+use mathlib.Core.Logic.{⊎-elim}
+use mathlib.Core.Path.{_≡_, sym, _∙_}
+use Prim.Native.Nat.{_≤_, _-_, _/_}
+use native.Mathlib.Omega.{arith}
+use lib.ListN.{length}
+use borrow.Author.Needs.{needs}
+use Rattle.density.specs.Lists.{ofSections}
+use Rattle.density.specs.Sums.{Ceilings, ceilings-none, ceilings-lower, ceilings-keep}
+use Rattle.density.proofs.sums.ceilings.Statement.{statement}
+use Rattle.density.proofs.sums.ceilings.Tie as tie
+
+abbrev Inv-loop : tie.InvT-loop
+Inv-loop sections times n ceilings₀ s₀ ceilings s = (s ≤ n) × Ceilings (ofSections sections times) s ceilings
+
+abbrev μ-loop : tie.MeasureT-loop
+μ-loop sections times n ceilings₀ s₀ ceilings s = n - s
+
+loop-holds : tie.Need-loop-holds Inv-loop μ-loop
+loop-holds c = (omega arith, ceilings-none _)
+
+owner-span-requires : tie.Need-owner-span-requires Inv-loop μ-loop
+owner-span-requires c κs = c .before .before .before .before .pre _ (omega arith)
+
+mul-wide : tie.Need-mul-wide Inv-loop μ-loop
+mul-wide c = search needs
+
+add-wide : tie.Need-add-wide Inv-loop μ-loop
+add-wide c = search needs
+
+mul-wide-2 : tie.Need-mul-wide-2 Inv-loop μ-loop
+mul-wide-2 c = search needs
+
+shared-slice-read-wide : tie.Need-shared-slice-read-wide Inv-loop μ-loop
+shared-slice-read-wide c = search needs
+
+wide-requires : tie.Need-wide-requires Inv-loop μ-loop
+wide-requires c κs = search needs
+
+mul-t10 : tie.Need-mul-t10 Inv-loop μ-loop
+mul-t10 c =
+    let l = c .before .before .before .before in
+    omega (arith, c .wide .ensures, l .before .before .before .pre (l .loop .s) (omega arith) .resource-in)
+
+array-read-t14 : tie.Need-array-read-t14 Inv-loop μ-loop
+array-read-t14 c =
+    let l = c .before .before .before .before in
+    omega (arith, c .wide .ensures, l .loop .inv .1 .size, l .before .before .before .pre (l .loop .s) (omega arith) .resource-in)
+
+below-requires : tie.Need-below-requires Inv-loop μ-loop
+below-requires c κs = search needs
+
+mul-ceilings : tie.Need-mul-ceilings Inv-loop μ-loop
+mul-ceilings c =
+    let l = c .before .before .before .before .before .before in
+    omega (arith, c .before .before .wide .ensures, l .before .before .before .pre (l .loop .s) (omega arith) .resource-in)
+
+array-write-ceilings : tie.Need-array-write-ceilings Inv-loop μ-loop
+array-write-ceilings c =
+    let l = c .before .before .before .before .before .before in
+    omega (arith, c .before .before .wide .ensures, l .loop .inv .1 .size, l .before .before .before .pre (l .loop .s) (omega arith) .resource-in)
+
+add-s : tie.Need-add-s Inv-loop μ-loop
+add-s c = search needs
+
+loop-less : tie.Need-loop-less Inv-loop μ-loop
+loop-less c = search needs
+
+loop-again : tie.Need-loop-again Inv-loop μ-loop
+loop-again c =
+    let k = c .before .before in
+    let o = k .before .before in
+    let l = o .before .before in
+    let t = l .before .before .before in
+    let p = ofSections (t .args .sections .now) (t .args .times .now) in
+    let h = t .pre (l .loop .s) (omega arith) .resource-in in
+    let e = sym (c .before .below .ensures) in
+    ⊎-elim
+    (λ w. (
+      omega arith,
+      rw (w .1)
+          (ceilings-lower p (l .loop .s) _ (l .loop .inv .1) _ _ (k .wide .ensures) (omega (arith, k .wide .ensures, h)) (o .owner-span .ensures)
+          (e ∙ w .0 .taken)),
+    ))
+    (λ w. (
+      omega arith,
+      rw (w .1)
+          (ceilings-keep p (l .loop .s) _ (l .loop .inv .1) _ _ (k .wide .ensures) (omega (arith, k .wide .ensures, h)) (o .owner-span .ensures)
+          (e ∙ w .0 .left)),
+    ))
+    (c .if1 .came)
+
+returns : tie.Need-returns Inv-loop μ-loop
+returns c =
+    let l = c .before .loop in
+    let e : l .s ≡ length (c .before .before .before .before .args .sections .now) / 4 = omega arith in
+    rw e at (l .inv .1)
+
+pub ceilings-spec : {M : Type 1} → statement M
+ceilings-spec =
+    tie.close
+    (tie.spec
+    Inv-loop
+    μ-loop
+    loop-holds
+    owner-span-requires
+    mul-wide
+    add-wide
+    mul-wide-2
+    shared-slice-read-wide
+    wide-requires
+    mul-t10
+    array-read-t14
+    below-requires
+    mul-ceilings
+    array-write-ceilings
+    add-s
+    loop-less
+    loop-again
+    returns)
