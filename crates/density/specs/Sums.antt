@@ -183,19 +183,19 @@ ticksFor p d s = cond (counts p d s) (ticksOf (p .table) s) 0
 abbrev pub blockingAt : Plan → ℕ → ℕ → ℕ
 blockingAt p d n = largest (counts p d) (ticksOf (p .table)) 0 n
 
--- one law for each way out
+-- one law for each way out, of a section of t ticks
 
-module _ (p : Plan) (d s b : ℕ) where
-  pub longer-short : ticksOf (p .table) s ≤ b → b ≡ max b (ticksFor p d s)
-  longer-short h = go (counts p d s)
+module _ (p : Plan) (d s b t : ℕ) (z : t ≡ ticksOf (p .table) s) where
+  pub longer-short : t ≤ b → b ≡ max b (ticksFor p d s)
+  longer-short h = rw (← z) (go (counts p d s))
     where
-      go : (c : Bool) → b ≡ max b (cond c (ticksOf (p .table) s) 0)
+      go : (c : Bool) → b ≡ max b (cond c t 0)
       go true = omega arith
       go false = omega arith
 
   module _ (x : ℕ) (y : x ≡ span p (owner (p .table) s)) where
     pub longer-lower : ltb d x ≡ false → b ≡ max b (ticksFor p d s)
-    longer-lower e = rw (← y, e) (omega arith)
+    longer-lower f = rw (← y, f) (omega arith)
 
     module _ (ceilings : List ℕ) (C : Ceilings p (sectionCount (p .table)) ceilings) (h : d ≤ latest) (q : ℕ) (e : q ≡ resource (p .table) s)
         (l : q < resources) (f : ltb d x ≡ true) where
@@ -205,8 +205,8 @@ module _ (p : Plan) (d s b : ℕ) where
       pub longer-clear : ltb d (getD ceilings q 0) ≡ true → b ≡ max b (ticksFor p d s)
       longer-clear g = rw (counted false (lt-leb (getD ceilings q 0) d (ltb-true d (getD ceilings q 0) g))) (omega arith)
 
-      pub longer-counts : ltb d (getD ceilings q 0) ≡ false → b < ticksOf (p .table) s → ticksOf (p .table) s ≡ max b (ticksFor p d s)
-      longer-counts g k = rw (counted true (le-leb (getD ceilings q 0) d (ltb-false d (getD ceilings q 0) g))) (omega arith)
+      pub longer-counts : ltb d (getD ceilings q 0) ≡ false → b < t → t ≡ max b (ticksFor p d s)
+      longer-counts g k = rw (counted true (le-leb (getD ceilings q 0) d (ltb-false d (getD ceilings q 0) g)), ← z) (omega arith)
 
 pub blocking-more : (p : Plan) (d n b : ℕ) → b ≡ blockingAt p d n → max b (ticksFor p d n) ≡ blockingAt p d (n + 1)
 unfolding largest

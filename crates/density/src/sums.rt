@@ -3,7 +3,7 @@ use crate::order::sorts_before;
 use crate::order::span_of;
 use rules::Span;
 ghost use mathlib.Core.Path.{_≡_};
-ghost use Prim.Native.Nat.{_+_, _*_, _/_, _<_, _≤_, max};
+ghost use Prim.Native.Nat.{_+_, _-_, _*_, _/_, _<_, _≤_, max};
 ghost use lib.ListN.{length, getD};
 ghost use Rattle.rules.specs.Rows.{sum};
 ghost use Rattle.rules.specs.Table.{latest, mostCost, mostJobs, owner, span};
@@ -14,12 +14,6 @@ ghost use Rattle.density.specs.Sums.{JobsIn, SectionAt, SectionsIn, most
 
 // Above every relative deadline: the ceiling of a resource that no job has a section on.
 const NO_CEILING: u32 = 1_000_001;
-
-fn wide(x: u32) -> usize
-    ensures { λ r. ⌜ r ≡ x ⌝ }
-{
-    x as usize
-}
 
 fn long(x: u32) -> u64
     ensures { λ r. ⌜ r ≡ x ⌝ }
@@ -66,12 +60,28 @@ fn sum_to(times: &[u32], shares: &[u64; 64], n: usize, j: usize) -> u64
     total
 }
 
+// A number of a section's row.
+fn entry(sections: &[u32], k: usize) -> usize
+    requires { ⌜ k < length (now sections) ⌝ }
+    ensures { λ r. ⌜ r ≡ getD (now (sections .entry)) k 0 ⌝ }
+{
+    sections[k] as usize
+}
+
+// How long section s is.
+fn ticks_of(sections: &[u32], s: usize) -> u32
+    requires { ⌜ (4 * s + 3 < length (now sections)) × (getD (now sections) (4 * s + 2) 0 ≤ getD (now sections) (4 * s + 3) 0) ⌝ }
+    ensures { λ r. ⌜ r ≡ getD (now (sections .entry)) (4 * s + 3) 0 - getD (now (sections .entry)) (4 * s + 2) 0 ⌝ }
+{
+    sections[4 * s + 3] - sections[4 * s + 2]
+}
+
 // The relative deadline of the job of section s.
 fn owner_span(sections: &[u32], times: &[u32], s: usize) -> Span
     requires { ⌜ SectionAt (now sections) (now times) s ⌝ }
     ensures { λ r. ⌜ r .0 ≡ span (ofTimes (now (times .entry))) (owner (ofSections (now (sections .entry)) (now (times .entry)) .table) s) ⌝ }
 {
-    span_of(times, wide(sections[4 * s]))
+    span_of(times, entry(sections, 4 * s))
 }
 
 // The ceiling of each resource: the smallest relative deadline of the jobs with a section on it.
@@ -84,7 +94,7 @@ pub fn ceilings(sections: &[u32], times: &[u32]) -> [u32; 16]
     let mut s = 0;
     while s < n {
         let own = owner_span(sections, times, s);
-        let q = wide(sections[4 * s + 1]);
+        let q = entry(sections, 4 * s + 1);
         if own.below(Span(ceilings[q])) {
             ceilings[q] = own.0;
         }
@@ -100,7 +110,7 @@ fn longer(sections: &[u32], times: &[u32], ceilings: &[u32; 16], d: Span, s: usi
         × Ceilings (ofSections (now sections) (now times)) (length (now sections) / 4) (now ceilings) × (d .0 ≤ latest) × (b ≤ mostCost) ⌝ }
     ensures { λ r. ⌜ (r ≡ max b (ticksFor (ofSections (now (sections .entry)) (now (times .entry))) (d .0) s)) × (r ≤ mostCost) ⌝ }
 {
-    let t = sections[4 * s + 3] - sections[4 * s + 2];
+    let t = ticks_of(sections, s);
     if t <= b {
         return b;
     }
@@ -108,7 +118,7 @@ fn longer(sections: &[u32], times: &[u32], ceilings: &[u32; 16], d: Span, s: usi
     if !d.below(e) {
         return b;
     }
-    let q = wide(sections[4 * s + 1]);
+    let q = entry(sections, 4 * s + 1);
     if d.below(Span(ceilings[q])) {
         return b;
     }

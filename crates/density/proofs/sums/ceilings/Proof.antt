@@ -22,43 +22,37 @@ loop-holds c = (omega arith, ceilings-none _)
 owner-span-requires : tie.Need-owner-span-requires Inv-loop μ-loop
 owner-span-requires c κs = c .before .before .before .before .pre _ (omega arith)
 
-mul-wide : tie.Need-mul-wide Inv-loop μ-loop
-mul-wide c = search needs
+mul-entry : tie.Need-mul-entry Inv-loop μ-loop
+mul-entry c = search needs
 
-add-wide : tie.Need-add-wide Inv-loop μ-loop
-add-wide c = search needs
+add-entry : tie.Need-add-entry Inv-loop μ-loop
+add-entry c = search needs
 
-mul-wide-2 : tie.Need-mul-wide-2 Inv-loop μ-loop
-mul-wide-2 c = search needs
-
-shared-slice-read-wide : tie.Need-shared-slice-read-wide Inv-loop μ-loop
-shared-slice-read-wide c = search needs
-
-wide-requires : tie.Need-wide-requires Inv-loop μ-loop
-wide-requires c κs = search needs
+entry-requires : tie.Need-entry-requires Inv-loop μ-loop
+entry-requires c κs = search needs
 
 mul-t10 : tie.Need-mul-t10 Inv-loop μ-loop
 mul-t10 c =
-    let l = c .before .before .before .before in
-    omega (arith, c .wide .ensures, l .before .before .before .pre (l .loop .s) (omega arith) .resource-in)
+    let l = c .before .before .before in
+    omega (arith, c .entry .ensures, l .before .before .before .pre (l .loop .s) (omega arith) .resource-in)
 
-array-read-t14 : tie.Need-array-read-t14 Inv-loop μ-loop
-array-read-t14 c =
-    let l = c .before .before .before .before in
-    omega (arith, c .wide .ensures, l .loop .inv .1 .size, l .before .before .before .pre (l .loop .s) (omega arith) .resource-in)
+array-read-t15 : tie.Need-array-read-t15 Inv-loop μ-loop
+array-read-t15 c =
+    let l = c .before .before .before in
+    omega (arith, c .entry .ensures, l .loop .inv .1 .size, l .before .before .before .pre (l .loop .s) (omega arith) .resource-in)
 
 below-requires : tie.Need-below-requires Inv-loop μ-loop
 below-requires c κs = search needs
 
 mul-ceilings : tie.Need-mul-ceilings Inv-loop μ-loop
 mul-ceilings c =
-    let l = c .before .before .before .before .before .before in
-    omega (arith, c .before .before .wide .ensures, l .before .before .before .pre (l .loop .s) (omega arith) .resource-in)
+    let l = c .before .before .before .before .before in
+    omega (arith, c .before .before .entry .ensures, l .before .before .before .pre (l .loop .s) (omega arith) .resource-in)
 
 array-write-ceilings : tie.Need-array-write-ceilings Inv-loop μ-loop
 array-write-ceilings c =
-    let l = c .before .before .before .before .before .before in
-    omega (arith, c .before .before .wide .ensures, l .loop .inv .1 .size, l .before .before .before .pre (l .loop .s) (omega arith) .resource-in)
+    let l = c .before .before .before .before .before in
+    omega (arith, c .before .before .entry .ensures, l .loop .inv .1 .size, l .before .before .before .pre (l .loop .s) (omega arith) .resource-in)
 
 add-s : tie.Need-add-s Inv-loop μ-loop
 add-s c = search needs
@@ -69,7 +63,7 @@ loop-less c = search needs
 loop-again : tie.Need-loop-again Inv-loop μ-loop
 loop-again c =
     let k = c .before .before in
-    let o = k .before .before in
+    let o = k .before in
     let l = o .before .before in
     let t = l .before .before .before in
     let p = ofSections (t .args .sections .now) (t .args .times .now) in
@@ -79,13 +73,13 @@ loop-again c =
     (λ w. (
       omega arith,
       rw (w .1)
-          (ceilings-lower p (l .loop .s) _ (l .loop .inv .1) _ _ (k .wide .ensures) (omega (arith, k .wide .ensures, h)) (o .owner-span .ensures)
+          (ceilings-lower p (l .loop .s) _ (l .loop .inv .1) _ _ (k .entry .ensures) (omega (arith, k .entry .ensures, h)) (o .owner-span .ensures)
           (e ∙ w .0 .taken)),
     ))
     (λ w. (
       omega arith,
       rw (w .1)
-          (ceilings-keep p (l .loop .s) _ (l .loop .inv .1) _ _ (k .wide .ensures) (omega (arith, k .wide .ensures, h)) (o .owner-span .ensures)
+          (ceilings-keep p (l .loop .s) _ (l .loop .inv .1) _ _ (k .entry .ensures) (omega (arith, k .entry .ensures, h)) (o .owner-span .ensures)
           (e ∙ w .0 .left)),
     ))
     (c .if1 .came)
@@ -104,13 +98,11 @@ ceilings-spec =
     μ-loop
     loop-holds
     owner-span-requires
-    mul-wide
-    add-wide
-    mul-wide-2
-    shared-slice-read-wide
-    wide-requires
+    mul-entry
+    add-entry
+    entry-requires
     mul-t10
-    array-read-t14
+    array-read-t15
     below-requires
     mul-ceilings
     array-write-ceilings
