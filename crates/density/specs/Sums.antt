@@ -1,7 +1,6 @@
 -- The sums of the density test as the code makes them: the shares and the ceilings once, in arrays; then for each job the sum
 -- of the shares up to its place, and b by one pass over the sections.
 use mathlib.Core.Path.{_≡_, refl, sym, _∙_}
-use mathlib.Core.Logic.{_≢_}
 use mathlib.Core.Bool.{Bool, true, false, cond, not, _&&_}
 use mathlib.Core.List.{List, []}
 use mathlib.Core.Option.{Option, none, some}
@@ -118,28 +117,15 @@ pub ceilings-none : (p : Plan) → Ceilings p 0 (replicate resources noCeiling)
 unfolding smallest
 ceilings-none p = record { size = refl; at = λ q l. getD-replicate resources q noCeiling 0 l }
 
-module _ (p : Plan) (s : ℕ) (ceilings : List ℕ) (C : Ceilings p s ceilings) (q x : ℕ) (e : q ≡ resource (p .table) s) (h : q < resources)
-    (y : x ≡ span p (owner (p .table) s)) where
-  at-own : (v : ℕ) → v ≡ min (getD ceilings q 0) x → v ≡ ceilingTo p (s + 1) q
-  at-own v z = rw (smallest-more, ← e, eq-eqb q q refl, ← y, ← C .at q h) z
-
-  at-other : (k : ℕ) → k < resources → k ≢ q → getD ceilings k 0 ≡ ceilingTo p (s + 1) k
-  at-other k l n = rw (smallest-more, ← e, ne-eqb q k (λ i. n (sym i))) (C .at k l)
-
-  -- the next section lowers the ceiling of its resource, or is above it
-  pub ceilings-lower : ltb x (getD ceilings q 0) ≡ true → Ceilings p (s + 1) (set ceilings q x)
-  ceilings-lower f = record { size = rw length-set (C .size); at = λ k l. go k l (ℕ-discrete k q) }
-    where
-      go : (k : ℕ) → k < resources → Dec (k ≡ q) → getD (set ceilings q x) k 0 ≡ ceilingTo p (s + 1) k
-      go k l (yes i) = rw i (getD-set-same ceilings q x 0 (omega (arith, C .size)) ∙ at-own x (omega (arith, ltb-true x (getD ceilings q 0) f)))
-      go k l (no n) = getD-set-other ceilings q k x 0 n ∙ at-other k l n
-
-  pub ceilings-keep : ltb x (getD ceilings q 0) ≡ false → Ceilings p (s + 1) ceilings
-  ceilings-keep f = record { size = C .size; at = λ k l. go k l (ℕ-discrete k q) }
-    where
-      go : (k : ℕ) → k < resources → Dec (k ≡ q) → getD ceilings k 0 ≡ ceilingTo p (s + 1) k
-      go k l (yes i) = rw i (at-own (getD ceilings q 0) (omega (arith, ltb-false x (getD ceilings q 0) f)))
-      go k l (no n) = at-other k l n
+-- the next section lowers the ceiling of its resource, or leaves it
+pub ceilings-more : (p : Plan) (s : ℕ) (ceilings : List ℕ) (q x v : ℕ) → Ceilings p s ceilings → q ≡ resource (p .table) s → q < resources
+    → x ≡ span p (owner (p .table) s) → v ≡ min x (getD ceilings q 0) → Ceilings p (s + 1) (set ceilings q v)
+ceilings-more p s ceilings q x v C e h y z = record { size = rw length-set (C .size); at = λ k l. go k l (ℕ-discrete k q) }
+  where
+    go : (k : ℕ) → k < resources → Dec (k ≡ q) → getD (set ceilings q v) k 0 ≡ ceilingTo p (s + 1) k
+    go k l (yes i) =
+        rw (i, getD-set-same ceilings q v 0 (omega (arith, C .size)), smallest-more, ← e, eq-eqb q q refl, ← y, ← C .at q h) (omega (arith, z))
+    go k l (no n) = rw (getD-set-other ceilings q k v 0 n, smallest-more, ← e, ne-eqb q k (λ i. n (sym i))) (C .at k l)
 
 -- of a span d, it says whether the ceiling is at most d
 ceiling-within : (p : Plan) (d q : ℕ) → d ≤ latest → leb (ceilingTo p (sectionCount (p .table)) q) d ≡ ceilingWithin (ceiling p q) d

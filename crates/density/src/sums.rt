@@ -3,7 +3,7 @@ use crate::order::sorts_before;
 use crate::order::span_of;
 use rules::Span;
 ghost use mathlib.Core.Path.{_≡_};
-ghost use Prim.Native.Nat.{_+_, _-_, _*_, _/_, _<_, _≤_, max};
+ghost use Prim.Native.Nat.{_+_, _-_, _*_, _/_, _<_, _≤_, min, max};
 ghost use lib.ListN.{length, getD};
 ghost use Rattle.rules.specs.Rows.{sum};
 ghost use Rattle.rules.specs.Table.{latest, mostCost, mostJobs, owner, span};
@@ -84,6 +84,16 @@ fn owner_span(sections: &[u32], times: &[u32], s: usize) -> Span
     span_of(times, entry(sections, 4 * s))
 }
 
+// The shorter of two relative deadlines.
+fn shorter(a: Span, b: Span) -> u32
+    ensures { λ r. ⌜ r ≡ min (a .0) (b .0) ⌝ }
+{
+    if a.below(b) {
+        return a.0;
+    }
+    b.0
+}
+
 // The ceiling of each resource: the smallest relative deadline of the jobs with a section on it.
 pub fn ceilings(sections: &[u32], times: &[u32]) -> [u32; 16]
     requires { ⌜ SectionsIn (now sections) (now times) ⌝ }
@@ -93,11 +103,8 @@ pub fn ceilings(sections: &[u32], times: &[u32]) -> [u32; 16]
     let mut ceilings = [NO_CEILING; 16];
     let mut s = 0;
     while s < n {
-        let own = owner_span(sections, times, s);
         let q = entry(sections, 4 * s + 1);
-        if own.below(Span(ceilings[q])) {
-            ceilings[q] = own.0;
-        }
+        ceilings[q] = shorter(owner_span(sections, times, s), Span(ceilings[q]));
         s += 1;
     }
     ceilings

@@ -1,12 +1,11 @@
 -- The loop has the smallest span of the sections passed, for each resource.
-use mathlib.Core.Logic.{⊎-elim}
-use mathlib.Core.Path.{_≡_, sym, _∙_}
+use mathlib.Core.Path.{_≡_}
 use Prim.Native.Nat.{_≤_, _-_, _/_}
 use native.Mathlib.Omega.{arith}
 use lib.ListN.{length}
 use borrow.Author.Needs.{needs}
 use Rattle.density.specs.Lists.{ofSections}
-use Rattle.density.specs.Sums.{Ceilings, ceilings-none, ceilings-lower, ceilings-keep}
+use Rattle.density.specs.Sums.{Ceilings, ceilings-none, ceilings-more}
 use Rattle.density.proofs.sums.ceilings.Statement.{statement}
 use Rattle.density.proofs.sums.ceilings.Tie as tie
 
@@ -19,9 +18,6 @@ abbrev μ-loop : tie.MeasureT-loop
 loop-holds : tie.Need-loop-holds Inv-loop μ-loop
 loop-holds c = (omega arith, ceilings-none _)
 
-owner-span-requires : tie.Need-owner-span-requires Inv-loop μ-loop
-owner-span-requires c κs = c .before .before .before .before .pre _ (omega arith)
-
 mul-entry : tie.Need-mul-entry Inv-loop μ-loop
 mul-entry c = search needs
 
@@ -29,29 +25,34 @@ add-entry : tie.Need-add-entry Inv-loop μ-loop
 add-entry c = search needs
 
 entry-requires : tie.Need-entry-requires Inv-loop μ-loop
-entry-requires c κs = search needs
+entry-requires c κs =
+    let l = c .before in
+    omega (arith, l .before .before .before .pre (l .loop .s) (omega arith) .listed)
 
-mul-t10 : tie.Need-mul-t10 Inv-loop μ-loop
-mul-t10 c =
+owner-span-requires : tie.Need-owner-span-requires Inv-loop μ-loop
+owner-span-requires c κs = c .before .before .before .before .before .pre _ (omega arith)
+
+mul-t9 : tie.Need-mul-t9 Inv-loop μ-loop
+mul-t9 c =
     let l = c .before .before .before in
-    omega (arith, c .entry .ensures, l .before .before .before .pre (l .loop .s) (omega arith) .resource-in)
+    omega (arith, c .before .entry .ensures, l .loop .inv .1 .size, l .before .before .before .pre (l .loop .s) (omega arith) .resource-in)
 
 array-read-t15 : tie.Need-array-read-t15 Inv-loop μ-loop
 array-read-t15 c =
     let l = c .before .before .before in
-    omega (arith, c .entry .ensures, l .loop .inv .1 .size, l .before .before .before .pre (l .loop .s) (omega arith) .resource-in)
+    omega (arith, c .before .entry .ensures, l .loop .inv .1 .size, l .before .before .before .pre (l .loop .s) (omega arith) .resource-in)
 
-below-requires : tie.Need-below-requires Inv-loop μ-loop
-below-requires c κs = search needs
+shorter-requires : tie.Need-shorter-requires Inv-loop μ-loop
+shorter-requires c κs = search needs
 
 mul-ceilings : tie.Need-mul-ceilings Inv-loop μ-loop
 mul-ceilings c =
-    let l = c .before .before .before .before .before in
-    omega (arith, c .before .before .entry .ensures, l .before .before .before .pre (l .loop .s) (omega arith) .resource-in)
+    let l = c .before .before .before .before in
+    omega (arith, c .before .before .entry .ensures, l .loop .inv .1 .size, l .before .before .before .pre (l .loop .s) (omega arith) .resource-in)
 
 array-write-ceilings : tie.Need-array-write-ceilings Inv-loop μ-loop
 array-write-ceilings c =
-    let l = c .before .before .before .before .before in
+    let l = c .before .before .before .before in
     omega (arith, c .before .before .entry .ensures, l .loop .inv .1 .size, l .before .before .before .pre (l .loop .s) (omega arith) .resource-in)
 
 add-s : tie.Need-add-s Inv-loop μ-loop
@@ -63,26 +64,12 @@ loop-less c = search needs
 loop-again : tie.Need-loop-again Inv-loop μ-loop
 loop-again c =
     let k = c .before .before in
-    let o = k .before in
-    let l = o .before .before in
-    let t = l .before .before .before in
-    let p = ofSections (t .args .sections .now) (t .args .times .now) in
-    let h = t .pre (l .loop .s) (omega arith) .resource-in in
-    let e = sym (c .before .below .ensures) in
-    ⊎-elim
-    (λ w. (
+    let l = k .before .before in
+    let t = l .before .before .before in (
       omega arith,
-      rw (w .1)
-          (ceilings-lower p (l .loop .s) _ (l .loop .inv .1) _ _ (k .entry .ensures) (omega (arith, k .entry .ensures, h)) (o .owner-span .ensures)
-          (e ∙ w .0 .taken)),
-    ))
-    (λ w. (
-      omega arith,
-      rw (w .1)
-          (ceilings-keep p (l .loop .s) _ (l .loop .inv .1) _ _ (k .entry .ensures) (omega (arith, k .entry .ensures, h)) (o .owner-span .ensures)
-          (e ∙ w .0 .left)),
-    ))
-    (c .if1 .came)
+      ceilings-more (ofSections (t .args .sections .now) (t .args .times .now)) (l .loop .s) (l .loop .ceilings) _ _ _ (l .loop .inv .1) (k .entry .ensures)
+          (omega (arith, k .entry .ensures, t .pre (l .loop .s) (omega arith) .resource-in)) (c .before .owner-span .ensures) (c .shorter .ensures),
+    )
 
 returns : tie.Need-returns Inv-loop μ-loop
 returns c =
@@ -97,13 +84,13 @@ ceilings-spec =
     Inv-loop
     μ-loop
     loop-holds
-    owner-span-requires
     mul-entry
     add-entry
     entry-requires
-    mul-t10
+    owner-span-requires
+    mul-t9
     array-read-t15
-    below-requires
+    shorter-requires
     mul-ceilings
     array-write-ceilings
     add-s
