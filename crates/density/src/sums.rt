@@ -126,7 +126,8 @@ fn longer(sections: &[u32], times: &[u32], ceilings: &[u32; 16], d: Span, s: usi
         return b;
     }
     let q = entry(sections, 4 * s + 1);
-    if d.below(Span(ceilings[q])) {
+    let c = Span(ceilings[q]);
+    if d.below(c) {
         return b;
     }
     t

@@ -44,8 +44,8 @@ add-entry c = search needs
 entry-requires : tie.Need-entry-requires
 entry-requires c κs = search needs
 
-mul-t12 : tie.Need-mul-t12
-mul-t12 c = search needs
+mul-t13 : tie.Need-mul-t13
+mul-t13 c = search needs
 
 element-copy-out-t17 : tie.Need-element-copy-out-t17
 element-copy-out-t17 c = search needs
@@ -93,7 +93,7 @@ longer-spec =
     mul-entry
     add-entry
     entry-requires
-    mul-t12
+    mul-t13
     element-copy-out-t17
     below-requires-2
     returns-3
