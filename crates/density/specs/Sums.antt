@@ -92,11 +92,11 @@ abbrev pub adds : Plan → ℕ → ℕ → ℕ → ℕ
 adds p m j i = upTo p j (λ i. m / span p i * cost (p .table) i) i
 
 -- the sum of the shares is that of the rules
-pub shares-sum : (jobs times : List ℕ) (m j n : ℕ) (shares : List ℕ) → Shares (ofJobs jobs times) m n shares
-    → sum (upTo (ofTimes times) j (λ i. getD shares i 0)) n ≡ sum (adds (ofJobs jobs times) m j) n
+pub shares-sum : (jobs times : List ℕ) (m j n : ℕ) (shares : List ℕ) (total : ℕ) → Shares (ofJobs jobs times) m n shares
+    → total ≡ sum (upTo (ofTimes times) j (λ i. getD shares i 0)) n → total ≡ sum (adds (ofJobs jobs times) m j) n
 unfolding sortsBefore
-shares-sum jobs times m j n shares S =
-    sum-ext (upTo (ofTimes times) j (λ i. getD shares i 0)) (adds (ofJobs jobs times) m j) n (λ i l. rw (S .at i l))
+shares-sum jobs times m j n shares total S e =
+    e ∙ sum-ext (upTo (ofTimes times) j (λ i. getD shares i 0)) (adds (ofJobs jobs times) m j) n (λ i l. rw (S .at i l))
 
 -- ---- ceilings
 
@@ -194,9 +194,9 @@ module _ (p : Plan) (d s b t : ℕ) (z : t ≡ ticksOf (p .table) s) where
       pub longer-counts : ltb d (getD ceilings q 0) ≡ false → b < t → t ≡ max b (ticksFor p d s)
       longer-counts g k = rw (counted true (le-leb (getD ceilings q 0) d (ltb-false d (getD ceilings q 0) g)), ← z) (omega arith)
 
-pub blocking-more : (p : Plan) (d n b : ℕ) → b ≡ blockingAt p d n → max b (ticksFor p d n) ≡ blockingAt p d (n + 1)
+pub blocking-more : (p : Plan) (d n b r : ℕ) → b ≡ blockingAt p d n → r ≡ max b (ticksFor p d n) → r ≡ blockingAt p d (n + 1)
 unfolding largest
-blocking-more p d n b e = rw (add-one n, e) (go (counts p d n))
+blocking-more p d n b r e f = rw (f, add-one n, e) (go (counts p d n))
   where
     go : (c : Bool) → max (blockingAt p d n) (cond c (ticksOf (p .table) n) 0)
         ≡ cond c (max (blockingAt p d n) (ticksOf (p .table) n)) (blockingAt p d n)

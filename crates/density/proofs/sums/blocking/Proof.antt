@@ -38,8 +38,7 @@ loop-again c =
     let a = l .before .before .before .args in (
       omega arith,
       c .longer .ensures .1,
-      c .longer .ensures .0
-          ∙ blocking-more (ofSections (a .sections .now) (a .times .now)) (a .d .0) (l .loop .s) _ (l .loop .inv .2),
+      blocking-more (ofSections (a .sections .now) (a .times .now)) (a .d .0) (l .loop .s) _ _ (l .loop .inv .2) (c .longer .ensures .0),
     )
 
 returns : tie.Need-returns Inv-loop μ-loop

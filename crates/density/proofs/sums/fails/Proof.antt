@@ -1,5 +1,4 @@
 -- The parts make up the sum of the rules, which the multiple is compared with.
-use mathlib.Core.Path.{_∙_}
 use mathlib.Core.List.{[]}
 use native.Mathlib.Omega.{arith}
 use borrow.Author.Needs.{needs}
@@ -36,7 +35,7 @@ returns c =
     let b = h .before .before in
     let t = b .before .before .before .before .before in
     fails-are (t .args .jobs .now) [] (t .args .sections .now) (t .args .times .now) (t .args .m) (t .args .j) _ _ _ _ _ (b .before .span-of .ensures)
-    (b .blocking .ensures .0) (h .before .sum-to .ensures .0 ∙ shares-sum (t .args .jobs .now) (t .args .times .now) (t .args .m) (t .args .j) _ _ (t .pre .2)) (h .share .ensures .0) (c .long .ensures)
+    (b .blocking .ensures .0) (shares-sum (t .args .jobs .now) (t .args .times .now) (t .args .m) (t .args .j) _ _ _ (t .pre .2) (h .before .sum-to .ensures .0)) (h .share .ensures .0) (c .long .ensures)
 
 pub fails-spec : {M : Type 1} → statement M
 fails-spec =
