@@ -1,26 +1,26 @@
--- The sums of the density test as the code makes them: what each job adds, and b by one pass for the ceilings and one for
--- the longest section.
-use mathlib.Core.Path.{_≡_, refl, sym, _∙_, ap}
-use mathlib.Core.Logic.{_≢_, _⊎_, ⊎-elim}
-use mathlib.Core.Bool.{Bool, true, false, cond, not, _&&_, _||_}
+-- The sums of the density test as the code makes them: the shares and the ceilings once, in arrays; then for each job the sum
+-- of the shares up to its place, and b by one pass over the sections.
+use mathlib.Core.Path.{_≡_, refl, sym, _∙_}
+use mathlib.Core.Bool.{Bool, true, false, cond, not, _&&_}
 use mathlib.Core.List.{List, []}
 use mathlib.Core.Option.{Option, none, some}
-use Prim.Native.Nat.{ℕ, zero, suc, _+_, _*_, _/_, _≤_, _<_, max}
+use Prim.Native.Nat.{ℕ, _+_, _*_, _/_, _≤_, _<_, min, max}
 use native.Mathlib.Nat.{mul-le-mul, div-le-self, le-trans}
 use native.Mathlib.Numerals.{add-one}
 use native.Mathlib.Decide.{ℕ-discrete}
 use native.Mathlib.Omega.{arith}
-use lib.ListN.{length, getD, set, replicate, length-set}
+use lib.ListN.{length, getD, set, replicate, length-set, getD-replicate}
 use lib.Seq.{getD-set-same, getD-set-other}
 use lib.Dec.{ltb, leb, eqb}
-use borrow.Author.Tests.{eq-eqb, ne-eqb}
-use Rattle.rules.specs.Rows.{any, sum, largest}
-use Rattle.rules.specs.Table.{Plan, resources, mostJobs, mostCost, cost, sectionCount, owner, resource, from, to, ticksOf, span}
+use borrow.Author.Count.{below-none, below-more}
+use borrow.Author.Tests.{eq-eqb, ne-eqb, le-leb, lt-leb, ltb-true, ltb-false}
+use Rattle.rules.specs.Rows.{sum, smallest, largest}
+use Rattle.rules.specs.Table.{Plan, resources, mostJobs, mostCost, latest, cost, sectionCount, owner, resource, from, to, ticksOf, span}
 use Rattle.rules.specs.Tick.{tightest, spanOf, ceiling}
 use Rattle.rules.specs.Density.{sortsBefore, ceilingWithin, blocking, fails, mostMultiple}
-use Rattle.laws.specs.Tests.{Says, so, not-so, lt-says, le-says, eq-says, says-and, yes-says, no-says, yes-of, no-of}
-use Rattle.laws.specs.Rows.{any-says, any-more, largest-ext}
-use Rattle.laws.specs.Clears.{CeilingOf, no-section, smallest-span, ceiling-of}
+use Rattle.laws.specs.Tests.{le-says, eq-says, yes-says, no-of, says-agree}
+use Rattle.laws.specs.Rows.{sum-ext, smallest-more, smallest-at, smallest-least, largest-ext}
+use Rattle.laws.specs.Clears.{SectionOn, CeilingOf, no-section, smallest-span, ceiling-of}
 use Rattle.rules.specs.Lists.{plan}
 use Rattle.density.specs.Lists.{ofTimes, ofJobs, ofSections, ofBoth}
 use Rattle.density.specs.Multiple.{SpansIn}
@@ -31,6 +31,7 @@ use Rattle.density.specs.Multiple.{SpansIn}
 pub record JobsIn (jobs times : List ℕ) : Type 0 where
   pub few : length jobs / 3 ≤ mostJobs
   pub spans : SpansIn times (length jobs / 3)
+  pub most : (j : ℕ) → j < length jobs / 3 → span (ofTimes times) j ≤ latest
   pub costs : (j : ℕ) → j < length jobs / 3 → cost (ofJobs jobs times .table) j ≤ mostCost
 
 -- section s names a job and a resource, and is no longer than a cost
@@ -45,7 +46,7 @@ pub record SectionAt (sections times : List ℕ) (s : ℕ) : Type 0 where
 abbrev pub SectionsIn : List ℕ → List ℕ → Type 0
 SectionsIn sections times = (s : ℕ) → s < length sections / 4 → SectionAt sections times s
 
--- ---- the sum over the first places
+-- ---- shares
 
 -- the most that a share of the multiple can be
 abbrev pub mostShare : ℕ
@@ -55,113 +56,104 @@ pub share-of : (m d c x y : ℕ) → x ≡ m / d → y ≡ c → m ≤ mostMulti
 share-of m d c x y e f h k =
     (rw (e, f), rw (e, f) (mul-le-mul {n₂ = mostMultiple} {m₂ = mostCost} (le-trans (div-le-self m d) h) k))
 
+-- an array of which the first n are as small as shares
+pub record SharesIn (n : ℕ) (shares : List ℕ) : Type 0 where
+  pub size : length shares ≡ mostJobs
+  pub most : (i : ℕ) → i < n → getD shares i 0 ≤ mostShare
+
+-- an array of the shares of the first n jobs
+pub record Shares (p : Plan) (m n : ℕ) (shares : List ℕ) : Type 0 where
+  pub within : SharesIn n shares
+  pub at : (i : ℕ) → i < n → getD shares i 0 ≡ m / span p i * cost (p .table) i
+
+pub shares-none : (p : Plan) (m : ℕ) → Shares p m 0 (replicate mostJobs 0)
+shares-none p m = record { within = record { size = refl; most = below-none _ }; at = below-none _ }
+
+pub shares-more : (p : Plan) (m i : ℕ) (shares : List ℕ) (x : ℕ) → Shares p m i shares → i < mostJobs
+    → x ≡ m / span p i * cost (p .table) i → x ≤ mostShare → Shares p m (i + 1) (set shares i x)
+shares-more p m i shares x S h e l =
+    let same = getD-set-same shares i x 0 (omega (arith, S .within .size)) in
+    record {
+      within = record {
+        size = rw length-set (S .within .size);
+        most = below-more _ _ (λ k q. rw (getD-set-other shares i k x 0 (omega arith)) (S .within .most k q)) (rw same l);
+      };
+      at = below-more _ _ (λ k q. getD-set-other shares i k x 0 (omega arith) ∙ S .at k q) (same ∙ e);
+    }
+
+-- ---- the sum over the first places
+
+-- what job i adds at the place of job j, of these shares: nothing where it stands after j
+abbrev pub upTo : Plan → ℕ → (ℕ → ℕ) → ℕ → ℕ
+upTo p j f i = cond (not (sortsBefore p j i)) (f i) 0
+
 -- what job i adds to the sum at the place of job j
 abbrev pub adds : Plan → ℕ → ℕ → ℕ → ℕ
-adds p m j i = cond (not (sortsBefore p j i)) (m / span p i * cost (p .table) i) 0
+adds p m j i = upTo p j (λ i. m / span p i * cost (p .table) i) i
 
--- the order reads only the times
-pub same-order : (jobs sections times : List ℕ) (i j : ℕ) → sortsBefore (ofTimes times) i j ≡ sortsBefore (ofBoth jobs sections times) i j
+-- the sum of the shares is that of the rules
+pub shares-sum : (jobs times : List ℕ) (m j n : ℕ) (shares : List ℕ) (total : ℕ) → Shares (ofJobs jobs times) m n shares
+    → total ≡ sum (upTo (ofTimes times) j (λ i. getD shares i 0)) n → total ≡ sum (adds (ofJobs jobs times) m j) n
 unfolding sortsBefore
-same-order jobs sections times i j = refl
-
-module _ (jobs times : List ℕ) (m j i : ℕ) where
-  pub adds-after : sortsBefore (ofTimes times) j i ≡ true → 0 ≡ adds (ofJobs jobs times) m j i
-  adds-after e = rw (sym (same-order jobs [] times j i) ∙ e)
-
-  pub adds-upto : sortsBefore (ofTimes times) j i ≡ false → m / span (ofTimes times) i * cost (ofJobs jobs times .table) i ≡ adds (ofJobs jobs times) m j i
-  adds-upto e = rw (sym (same-order jobs [] times j i) ∙ e)
+shares-sum jobs times m j n shares total S e =
+    e ∙ sum-ext (upTo (ofTimes times) j (λ i. getD shares i 0)) (adds (ofJobs jobs times) m j) n (λ i l. rw (S .at i l))
 
 -- ---- ceilings
 
--- section s sets a ceiling of at most d on q
-abbrev pub reaches : Plan → ℕ → ℕ → ℕ → Bool
-reaches p d q s = eqb (resource (p .table) s) q && leb (span p (owner (p .table) s)) d
+-- above every span: the ceiling of a resource that has no section
+abbrev pub noCeiling : ℕ
+noCeiling = 1_000_001
 
--- some section does exactly if the ceiling is at most d
-pub within-is : (p : Plan) (d q : ℕ) → any (reaches p d q) (sectionCount (p .table)) ≡ ceilingWithin (ceiling p q) d
-within-is p d q = go (ceiling-of p q)
+-- the smallest span of the jobs with one of the first n sections on q
+abbrev pub ceilingTo : Plan → ℕ → ℕ → ℕ
+ceilingTo p n q = smallest (λ s. eqb (resource (p .table) s) q) (λ s. span p (owner (p .table) s)) noCeiling n
+
+-- an array of it for each resource
+pub record Ceilings (p : Plan) (n : ℕ) (ceilings : List ℕ) : Type 0 where
+  pub size : length ceilings ≡ resources
+  pub at : (q : ℕ) → q < resources → getD ceilings q 0 ≡ ceilingTo p n q
+
+pub ceilings-none : (p : Plan) → Ceilings p 0 (replicate resources noCeiling)
+unfolding smallest
+ceilings-none p = record { size = refl; at = λ q l. getD-replicate resources q noCeiling 0 l }
+
+-- the next section lowers the ceiling of its resource, or leaves it
+pub ceilings-more : (p : Plan) (s : ℕ) (ceilings : List ℕ) (q x v : ℕ) → Ceilings p s ceilings → q ≡ resource (p .table) s → q < resources
+    → x ≡ span p (owner (p .table) s) → v ≡ min x (getD ceilings q 0) → Ceilings p (s + 1) (set ceilings q v)
+ceilings-more p s ceilings q x v C e h y z = record { size = rw length-set (C .size); at = λ k l. go k l (ℕ-discrete k q) }
   where
-    A : ℕ → Type 0
-    A s = (resource (p .table) s ≡ q) × (span p (owner (p .table) s) ≤ d)
+    go : (k : ℕ) → k < resources → Dec (k ≡ q) → getD (set ceilings q v) k 0 ≡ ceilingTo p (s + 1) k
+    go k l (yes i) =
+        rw (i, getD-set-same ceilings q v 0 (omega (arith, C .size)), smallest-more, ← e, eq-eqb q q refl, ← y, ← C .at q h) (omega (arith, z))
+    go k l (no n) = rw (getD-set-other ceilings q k v 0 n, smallest-more, ← e, ne-eqb q k (λ i. n (sym i))) (C .at k l)
 
-    B : ℕ → Type 0
-    B s = (resource (p .table) s ≢ q) ⊎ (d < span p (owner (p .table) s))
+-- of a span d, it says whether the ceiling is at most d
+ceiling-within : (p : Plan) (d q : ℕ) → d ≤ latest → leb (ceilingTo p (sectionCount (p .table)) q) d ≡ ceilingWithin (ceiling p q) d
+ceiling-within p d q h = go (ceiling-of p q)
+  where
+    -- what no section on q is at most, the ceiling is not
+    above : ((s : ℕ) → SectionOn p q s → d < span p (owner (p .table) s)) → d < ceilingTo p (sectionCount (p .table)) q
+    above f =
+        smallest-least _ _ _ _ _ (omega arith) (λ s l e. f s (record { listed = l; on = yes-says (eq-says (resource (p .table) s) q) e }))
 
-    says : Says
-        ((i : ℕ) × (i < sectionCount (p .table)) × A i)
-        ((i : ℕ) → i < sectionCount (p .table) → B i)
-        (any (reaches p d q) (sectionCount (p .table)))
-    says = any-says A B (reaches p d q) (λ s. says-and (eq-says (resource (p .table) s) q) (le-says (span p (owner (p .table) s)) d))
-        (sectionCount (p .table))
-
-    go : {o : Option ℕ} → CeilingOf p q o → any (reaches p d q) (sectionCount (p .table)) ≡ ceilingWithin o d
-    go (no-section n) = no-of says (λ w. n (w .0) (record { listed = w .1; on = w .2 .0 }))
-    go (smallest-span s h least) = last (le-says (span p (owner (p .table) s)) d)
-      where
-        last : {b : Bool} → Says (span p (owner (p .table) s) ≤ d) (d < span p (owner (p .table) s)) b
-            → any (reaches p d q) (sectionCount (p .table)) ≡ b
-        last (so l) = yes-of says (λ n. ⊎-elim (λ f. f (h .on)) (λ k. omega arith) (n s (h .listed)))
-        last (not-so l) = no-of says (λ w. omega (arith, w .2 .1, least (w .0) (record { listed = w .1; on = w .2 .0 })))
-
--- the marks of the resources whose ceiling is at most d, from the first n sections, and from all
-pub record Marked (p : Plan) (d n : ℕ) (marks : List Bool) : Type 0 where
-  pub long : length marks ≡ resources
-  pub at : (q : ℕ) → q < resources → getD marks q false ≡ any (reaches p d q) n
-
--- the marks say of each resource whether its ceiling is at most d
-pub record Reached (p : Plan) (d : ℕ) (marks : List Bool) : Type 0 where
-  pub long : length marks ≡ resources
-  pub at : (q : ℕ) → q < resources → getD marks q false ≡ ceilingWithin (ceiling p q) d
-
-no-mark : (n q : ℕ) → getD (replicate n false) q false ≡ false
-no-mark zero q = refl
-no-mark (suc n) zero = refl
-no-mark (suc n) (suc q) = no-mark n q
-
-pub marked-none : (p : Plan) (d : ℕ) → Marked p d 0 (replicate resources false)
-unfolding any
-marked-none p d = record { long = refl; at = λ q l. no-mark resources q }
-
-or-true : (b : Bool) → (b || true) ≡ true
-or-true true = refl
-or-true false = refl
-
-or-false : (b : Bool) → (b || false) ≡ b
-or-false true = refl
-or-false false = refl
-
-and-false : (b : Bool) → (b && false) ≡ false
-and-false true = refl
-and-false false = refl
-
-module _ (p : Plan) (d s : ℕ) (marks : List Bool) (M : Marked p d s marks) where
-  pub marked-more : (q x : ℕ) → q ≡ resource (p .table) s → q < resources → x ≡ span p (owner (p .table) s) → ltb d x ≡ false
-      → Marked p d (s + 1) (set marks q true)
-  marked-more q x e h y f =
-      record {
-        long = rw length-set (M .long);
-        at = λ k l.
-            rw (any-more (reaches p d k) s, yes-of (le-says (span p (owner (p .table) s)) d) (λ n. omega (arith, no-says (lt-says d x) f)), ← e)
-            (go k l (ℕ-discrete k q));
-      }
-    where
-      go : (k : ℕ) → k < resources → Dec (k ≡ q) → getD (set marks q true) k false ≡ (any (reaches p d k) s || (eqb q k && true))
-      go k l (yes i) = rw (i, getD-set-same marks q true false (omega (arith, M .long)), eq-eqb q q refl) (sym (or-true (any (reaches p d q) s)))
-      go k l (no n) = rw (getD-set-other marks q k true false n, ne-eqb q k (λ i. n (sym i))) (M .at k l ∙ sym (or-false (any (reaches p d k) s)))
-
-  pub marked-same : (x : ℕ) → x ≡ span p (owner (p .table) s) → ltb d x ≡ true → Marked p d (s + 1) marks
-  marked-same x y f =
-      record {
-        long = M .long;
-        at = λ k l.
-            rw (any-more (reaches p d k) s, no-of (le-says (span p (owner (p .table) s)) d) (λ n. omega (arith, yes-says (lt-says d x) f)), and-false)
-            (M .at k l ∙ sym (or-false _));
-      }
-
-  pub marked-end : s ≤ sectionCount (p .table) → sectionCount (p .table) ≤ s → Reached p d marks
-  marked-end h k =
-      let e : s ≡ sectionCount (p .table) = omega arith in
-      record { long = M .long; at = λ q l. M .at q l ∙ ap (any (reaches p d q)) e ∙ within-is p d q }
+    go : {o : Option ℕ} → CeilingOf p q o → leb (ceilingTo p (sectionCount (p .table)) q) d ≡ ceilingWithin o d
+    go (no-section n) = no-of (le-says (ceilingTo p (sectionCount (p .table)) q) d) (λ l. omega (arith, above (λ s g. absurd (n s g))))
+    go (smallest-span s g least) =
+        says-agree
+        (le-says (ceilingTo p (sectionCount (p .table)) q) d)
+        (le-says (span p (owner (p .table) s)) d)
+        (λ a b. omega (arith, above (λ k i. omega (arith, least k i))))
+        (λ a b. omega (
+          arith,
+          smallest-at
+              (λ s. eqb (resource (p .table) s) q)
+              (λ s. span p (owner (p .table) s))
+              noCeiling
+              (sectionCount (p .table))
+              s
+              (g .listed)
+              (eq-eqb (resource (p .table) s) q (g .on)),
+        ))
 
 -- ---- the longest section
 
@@ -177,28 +169,39 @@ ticksFor p d s = cond (counts p d s) (ticksOf (p .table) s) 0
 abbrev pub blockingAt : Plan → ℕ → ℕ → ℕ
 blockingAt p d n = largest (counts p d) (ticksOf (p .table)) 0 n
 
-module _ (p : Plan) (d s x : ℕ) (y : x ≡ span p (owner (p .table) s)) where
-  pub counts-lower : ltb d x ≡ false → 0 ≡ ticksFor p d s
-  counts-lower e = rw (← y, e)
+-- one law for each way out, of a section of t ticks
 
-  module _ (marks : List Bool) (R : Reached p d marks) (q : ℕ) (e : q ≡ resource (p .table) s) (h : q < resources) where
-    pub counts-clear : getD marks q false ≡ false → 0 ≡ ticksFor p d s
-    counts-clear f = rw (← e, sym (R .at q h) ∙ f, and-false)
+module _ (p : Plan) (d s b t : ℕ) (z : t ≡ ticksOf (p .table) s) where
+  pub longer-short : t ≤ b → b ≡ max b (ticksFor p d s)
+  longer-short h = rw (← z) (go (counts p d s))
+    where
+      go : (c : Bool) → b ≡ max b (cond c t 0)
+      go true = omega arith
+      go false = omega arith
 
-    pub counts-all : ltb d x ≡ true → getD marks q false ≡ true → ticksOf (p .table) s ≡ ticksFor p d s
-    counts-all g f = rw (← y, g, ← e, sym (R .at q h) ∙ f)
+  module _ (x : ℕ) (y : x ≡ span p (owner (p .table) s)) where
+    pub longer-lower : ltb d x ≡ false → b ≡ max b (ticksFor p d s)
+    longer-lower f = rw (← y, f) (omega arith)
 
-pub blocking-turn : (p : Plan) (d n b t : ℕ) → b ≡ blockingAt p d n → t ≡ ticksFor p d n → max b t ≡ blockingAt p d (n + 1)
+    module _ (ceilings : List ℕ) (C : Ceilings p (sectionCount (p .table)) ceilings) (h : d ≤ latest) (q : ℕ) (e : q ≡ resource (p .table) s)
+        (l : q < resources) (f : ltb d x ≡ true) where
+      counted : (c : Bool) → leb (getD ceilings q 0) d ≡ c → counts p d s ≡ c
+      counted c g = rw (← y, f, ← e, ← ceiling-within p d q h, ← C .at q l) g
+
+      pub longer-clear : ltb d (getD ceilings q 0) ≡ true → b ≡ max b (ticksFor p d s)
+      longer-clear g = rw (counted false (lt-leb (getD ceilings q 0) d (ltb-true d (getD ceilings q 0) g))) (omega arith)
+
+      pub longer-counts : ltb d (getD ceilings q 0) ≡ false → b < t → t ≡ max b (ticksFor p d s)
+      longer-counts g k = rw (counted true (le-leb (getD ceilings q 0) d (ltb-false d (getD ceilings q 0) g)), ← z) (omega arith)
+
+pub blocking-more : (p : Plan) (d n b r : ℕ) → b ≡ blockingAt p d n → r ≡ max b (ticksFor p d n) → r ≡ blockingAt p d (n + 1)
 unfolding largest
-blocking-turn p d n b t e f = rw (add-one n, e, f) (go (counts p d n))
+blocking-more p d n b r e f = rw (f, add-one n, e) (go (counts p d n))
   where
     go : (c : Bool) → max (blockingAt p d n) (cond c (ticksOf (p .table) n) 0)
         ≡ cond c (max (blockingAt p d n) (ticksOf (p .table) n)) (blockingAt p d n)
     go true = refl
     go false = omega arith
-
-pub blocking-end : (p : Plan) (d i n b : ℕ) → i ≤ n → n ≤ i → b ≡ blockingAt p d i → b ≡ blockingAt p d n
-blocking-end p d i n b h k e = let q : i ≡ n = omega arith in rw (← q) e
 
 -- ---- the whole sum
 

@@ -37,7 +37,7 @@ pub fn sorts_before(times: &[u32], i: usize, j: usize) -> bool
 
 // How many of the n jobs stand before job j.
 pub fn before(times: &[u32], n: usize, j: usize) -> u32
-    requires { ⌜ (n ≤ 64) × (2 * n ≤ length (now times)) × (j < n) ⌝ }
+    requires { ⌜ (n ≤ 64) × (2 * n ≤ length (now times)) × (2 * j + 1 < length (now times)) ⌝ }
     ensures { λ r. ⌜ (r ≡ count (λ i. sortsBefore (ofTimes (now (times .entry))) i j) n) × (r ≤ 64) ⌝ }
 {
     let mut k = 0;

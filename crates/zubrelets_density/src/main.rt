@@ -78,10 +78,7 @@ fn answer_text(text: &[u8]) {
     }
 }
 
-// The buffer has 65,536 bytes, and the longest right text has 20,830. A text that does not fit is therefore wrong, and its
-// first wrong line starts within the first 20,831 bytes, as the right lines before it begin some right text. That line ends
-// within the buffer, or it is longer than any line of the right form and as wrong cut off as whole. So the bytes that were
-// read get the answer of the whole text.
+// The buffer holds every right text, and of a wrong one enough for its answer: `zubrelets`, `main`, says why.
 fn main() {
     let mut text = io::large_buffer();
     let n = io::read_full(0, &mut text);

@@ -1,5 +1,4 @@
 -- 12, then 14, else the verdict over the common multiple.
-use mathlib.Core.Path.{sym, _∙_}
 use native.Mathlib.Omega.{arith}
 use borrow.Author.Needs.{needs}
 use borrow.Author.Tests.{not-true, not-false}
@@ -15,9 +14,10 @@ bounded : (c : tie.Else1)
     JobsIn (a .jobs .now) (a .times .now) × SectionsIn (a .sections .now) (a .times .now)
 bounded c =
     let a = c .before .before .before .before .before .before .args in
-    let e = sym (c .before .plan-in-bounds .ensures) ∙ not-false _ (c .if1 .left) in (
-      jobs-in (a .jobs .now) (a .arcs .now) (a .sections .now) (a .times .now) e,
-      sections-in (a .jobs .now) (a .arcs .now) (a .sections .now) (a .times .now) e,
+    let e = c .before .plan-in-bounds .ensures in
+    let f = not-false _ (c .if1 .left) in (
+      jobs-in (a .jobs .now) (a .arcs .now) (a .sections .now) (a .times .now) e f,
+      sections-in (a .jobs .now) (a .arcs .now) (a .sections .now) (a .times .now) e f,
     )
 
 plan-in-bounds-requires : tie.Need-plan-in-bounds-requires

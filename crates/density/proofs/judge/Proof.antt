@@ -1,4 +1,5 @@
 -- Nothing found is a yes; a job found is a no at its place.
+use native.Mathlib.Omega.{arith}
 use borrow.Author.Needs.{needs}
 use Rattle.rules.specs.Density.{sortsBefore}
 use Rattle.density.specs.Lists.{ofBoth}
@@ -20,7 +21,8 @@ before-requires : tie.Need-before-requires
 before-requires c κs =
     let f = c .before .before .before in
     let t = f .before .before .before .before in
-    (t .pre .0 .few, t .pre .0 .spans .pairs, job-within _ _ _ (f .first-failing .ensures .0) (c .before .found .given .1))
+    let h = job-within _ _ _ (f .first-failing .ensures .0) (c .before .found .given .1) in
+    (t .pre .0 .few, t .pre .0 .spans .pairs, omega (arith, h))
 
 add-t11 : tie.Need-add-t11
 add-t11 c = search needs

@@ -1,20 +1,17 @@
 -- Each way out is a way of `better`.
+use mathlib.Core.Path.{sym, _∙_}
 use native.Mathlib.Omega.{arith}
 use borrow.Author.Needs.{needs}
 use borrow.Author.Tests.{not-true, not-false}
-use Rattle.density.specs.Failing.{job-within, turn-kept, turn-opened, turn-passed, turn-stayed}
+use Rattle.laws.specs.First.{kept, opened, passed, stayed, better-is}
+use Rattle.density.specs.Failing.{job-within}
 use Rattle.density.proofs.failing.turn.Statement.{statement}
 use Rattle.density.proofs.failing.turn.Tie as tie
 
-fails-requires : tie.Need-fails-requires
-fails-requires c κs = search needs
-
 returns : tie.Need-returns
 returns c =
-    let f = c .before in
-    let t = f .before .before .before .before in
-    let a = t .args in
-    (t .pre .4, turn-kept (a .jobs .now) (a .sections .now) (a .times .now) (a .m) (a .j) _ (f .fails .ensures) (not-true _ (c .if1 .taken)))
+    let t = c .before .before in
+    (t .pre .1, rw (not-true (t .args .failed) (c .if1 .taken)) (sym (better-is kept)))
 
 enum-told : tie.Need-enum-told
 enum-told c = search needs
@@ -24,53 +21,35 @@ enum-known-best c = search needs
 
 sorts-before-requires : tie.Need-sorts-before-requires
 sorts-before-requires c κs =
-    let t = c .before .before .before .before .before .before .before .before in
-    let h = job-within _ _ _ (t .pre .4) (c .before .best .given .1) in
-    (omega (arith, t .pre .0 .spans .pairs, t .pre .3), omega (arith, t .pre .0 .spans .pairs, h))
+    let t = c .before .before .before .before .before in
+    let h = job-within _ _ _ (t .pre .1) (c .before .best .given .1) in
+    (omega (arith, t .pre .0), omega (arith, h))
 
 returns-2 : tie.Need-returns-2
 returns-2 c =
-    let f = c .before .before .before in
-    let t = f .before .before .before .before in
-    let a = t .args in (
-      t .pre .3,
-      rw (c .enum-told .given .1)
-          (turn-opened (a .jobs .now) (a .sections .now) (a .times .now) (a .m) (a .j) (f .fails .ensures) (not-false _ (c .before .before .if1 .left))),
-    )
+    let f = c .before .before in
+    let t = f .before .before in
+    (t .pre .0, rw (c .enum-told .given .1, not-false (t .args .failed) (f .if1 .left)) (sym (better-is opened)))
 
 returns-3 : tie.Need-returns-3
 returns-3 c =
     let b = c .before .before .before in
-    let f = b .before .before .before in
-    let t = f .before .before .before .before in
-    let a = t .args in (
-      t .pre .3,
-      rw (b .best .given .1)
-          (turn-passed (a .jobs .now) (a .sections .now) (a .times .now) (a .m) (a .j) (f .fails .ensures) (not-false _ (b .before .before .if1 .left)) _
-          (c .before .sorts-before .ensures) (c .if2 .taken)),
+    let f = b .before .before in
+    let t = f .before .before in (
+      t .pre .0,
+      rw (b .best .given .1, not-false (t .args .failed) (f .if1 .left)) (sym (better-is (passed (sym (c .before .sorts-before .ensures) ∙ c .if2 .taken)))),
     )
 
 returns-4 : tie.Need-returns-4
 returns-4 c =
     let b = c .before .before .before in
-    let f = b .before .before .before in
-    let t = f .before .before .before .before in
-    let a = t .args in (
-      job-within _ _ _ (t .pre .4) (b .best .given .1),
-      rw (b .best .given .1)
-          (turn-stayed (a .jobs .now) (a .sections .now) (a .times .now) (a .m) (a .j) (f .fails .ensures) (not-false _ (b .before .before .if1 .left)) _
-          (c .before .sorts-before .ensures) (c .if2 .left)),
+    let f = b .before .before in
+    let t = f .before .before in (
+      job-within _ _ _ (t .pre .1) (b .best .given .1),
+      rw (b .best .given .1, not-false (t .args .failed) (f .if1 .left)) (sym (better-is (stayed (sym (c .before .sorts-before .ensures) ∙ c .if2 .left)))),
     )
 
 pub turn-spec : {M : Type 1} → statement M
 turn-spec =
     tie.close
-    (tie.spec
-    fails-requires
-    returns
-    enum-told
-    enum-known-best
-    sorts-before-requires
-    returns-2
-    returns-3
-    returns-4)
+    (tie.spec returns enum-told enum-known-best sorts-before-requires returns-2 returns-3 returns-4)

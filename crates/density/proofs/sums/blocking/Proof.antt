@@ -1,33 +1,30 @@
 -- The loop has the longest of the sections passed that count.
-use mathlib.Core.Path.{_≡_, refl}
-use mathlib.Core.Logic.{⊎-elim}
+use mathlib.Core.Path.{_≡_, refl, _∙_, ap}
 use Prim.Native.Nat.{_≤_, _-_}
 use native.Mathlib.Omega.{arith}
 use borrow.Author.Needs.{needs}
 use Rattle.rules.specs.Rows.{largest}
 use Rattle.rules.specs.Table.{mostCost}
 use Rattle.density.specs.Lists.{ofSections}
-use Rattle.density.specs.Sums.{blockingAt, blocking-turn, blocking-end}
+use Rattle.density.specs.Sums.{blockingAt, blocking-more}
 use Rattle.density.proofs.sums.blocking.Statement.{statement}
 use Rattle.density.proofs.sums.blocking.Tie as tie
 
 abbrev Inv-loop : tie.InvT-loop
-Inv-loop sections times d n marks b₀ s₀ b s = (s ≤ n) × (b ≤ mostCost) × (b ≡ blockingAt (ofSections sections times) (d .0) s)
+Inv-loop sections times ceilings d n b₀ s₀ b s = (s ≤ n) × (b ≤ mostCost) × (b ≡ blockingAt (ofSections sections times) (d .0) s)
 
 abbrev μ-loop : tie.MeasureT-loop
-μ-loop sections times d n marks b₀ s₀ b s = n - s
-
-reached-requires : tie.Need-reached-requires Inv-loop μ-loop
-reached-requires c κs = search needs
+μ-loop sections times ceilings d n b₀ s₀ b s = n - s
 
 loop-holds : tie.Need-loop-holds Inv-loop μ-loop
 unfolding largest
 loop-holds c = (omega arith, omega arith, refl)
 
-ticks-for-requires : tie.Need-ticks-for-requires Inv-loop μ-loop
-ticks-for-requires c κs =
-    let l = c .before .before in
-    (l .before .before .before .before .pre _ (omega arith), l .before .reached .ensures)
+longer-requires : tie.Need-longer-requires Inv-loop μ-loop
+longer-requires c κs =
+    let l = c .before in
+    let t = l .before .before .before in
+    (t .pre .0 (l .loop .s) (omega arith), t .pre .1, t .pre .2, l .loop .inv .1)
 
 add-s : tie.Need-add-s Inv-loop μ-loop
 add-s c = search needs
@@ -37,22 +34,15 @@ loop-less c = search needs
 
 loop-again : tie.Need-loop-again Inv-loop μ-loop
 loop-again c =
-    let k = c .before in
-    let l = c .before .before .before .before in
-    let t = l .before .before .before .before in
-    let h = blocking-turn (ofSections (t .args .sections .now) (t .args .times .now)) (t .args .d .0) (l .loop .s) _ _ (l .loop .inv .2) (k .ticks-for .ensures .0) in
-    ⊎-elim
-    (λ w. (omega arith, omega (arith, k .ticks-for .ensures .1), omega (arith, h)))
-    (λ w. (omega arith, omega arith, omega (arith, h)))
-    (c .if1 .came)
+    let l = c .before .before in
+    let a = l .before .before .before .args in (
+      omega arith,
+      c .longer .ensures .1,
+      blocking-more (ofSections (a .sections .now) (a .times .now)) (a .d .0) (l .loop .s) _ _ (l .loop .inv .2) (c .longer .ensures .0),
+    )
 
 returns : tie.Need-returns Inv-loop μ-loop
-returns c =
-    let t = c .before .before .before .before .before in (
-      blocking-end (ofSections (t .args .sections .now) (t .args .times .now)) (t .args .d .0) (c .before .loop .s) _ _ (omega arith) (omega arith)
-          (c .before .loop .inv .2),
-      omega arith,
-    )
+returns c = (c .before .loop .inv .2 ∙ ap (largest _ _ _) (omega arith), omega arith)
 
 pub blocking-spec : {M : Type 1} → statement M
 blocking-spec =
@@ -60,9 +50,8 @@ blocking-spec =
     (tie.spec
     Inv-loop
     μ-loop
-    reached-requires
     loop-holds
-    ticks-for-requires
+    longer-requires
     add-s
     loop-less
     loop-again

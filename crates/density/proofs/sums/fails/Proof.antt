@@ -2,7 +2,7 @@
 use mathlib.Core.List.{[]}
 use native.Mathlib.Omega.{arith}
 use borrow.Author.Needs.{needs}
-use Rattle.density.specs.Sums.{fails-are}
+use Rattle.density.specs.Sums.{shares-sum, fails-are}
 use Rattle.density.proofs.sums.fails.Statement.{statement}
 use Rattle.density.proofs.sums.fails.Tie as tie
 
@@ -10,7 +10,9 @@ span-of-requires : tie.Need-span-of-requires
 span-of-requires c κs = search needs
 
 blocking-requires : tie.Need-blocking-requires
-blocking-requires c κs = search needs
+blocking-requires c κs =
+    let t = c .before .before .before .before in
+    (t .pre .1, t .pre .3, omega (arith, c .span-of .ensures, t .pre .0 .most (t .args .j) (t .pre .5)))
 
 sum-to-requires : tie.Need-sum-to-requires
 sum-to-requires c κs = search needs
@@ -19,7 +21,7 @@ share-requires : tie.Need-share-requires
 share-requires c κs =
     let s = c .before .before in
     let t = s .before .before .before .before in
-    (omega (arith, s .span-of .ensures, t .pre .0 .spans .some (t .args .j) (t .pre .3)), t .pre .2, c .before .blocking .ensures .1)
+    (omega (arith, s .span-of .ensures, t .pre .0 .spans .some (t .args .j) (t .pre .5)), t .pre .4, c .before .blocking .ensures .1)
 
 add-total : tie.Need-add-total
 add-total c = search needs
@@ -33,7 +35,7 @@ returns c =
     let b = h .before .before in
     let t = b .before .before .before .before .before in
     fails-are (t .args .jobs .now) [] (t .args .sections .now) (t .args .times .now) (t .args .m) (t .args .j) _ _ _ _ _ (b .before .span-of .ensures)
-    (b .blocking .ensures .0) (h .before .sum-to .ensures .0) (h .share .ensures .0) (c .long .ensures)
+    (b .blocking .ensures .0) (shares-sum (t .args .jobs .now) (t .args .times .now) (t .args .m) (t .args .j) _ _ _ (t .pre .2) (h .before .sum-to .ensures .0)) (h .share .ensures .0) (c .long .ensures)
 
 pub fails-spec : {M : Type 1} → statement M
 fails-spec =

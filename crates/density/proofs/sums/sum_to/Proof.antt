@@ -1,30 +1,42 @@
 -- The loop has the sum of the jobs passed, and a bound for it by their number.
-use mathlib.Core.Path.{_≡_, refl, _∙_, ap}
+use mathlib.Core.Path.{_≡_, refl, sym, _∙_, ap}
+use mathlib.Core.Logic.{⊎-elim}
 use Prim.Native.Nat.{_≤_, _*_, _-_}
 use native.Mathlib.Omega.{arith}
+use lib.ListN.{getD}
 use borrow.Author.Needs.{needs}
+use borrow.Author.Tests.{not-true, not-false}
 use Rattle.rules.specs.Rows.{sum}
 use Rattle.laws.specs.Rows.{sum-more}
-use Rattle.density.specs.Lists.{ofJobs}
-use Rattle.density.specs.Sums.{mostShare, adds}
+use Rattle.density.specs.Lists.{ofTimes}
+use Rattle.density.specs.Sums.{mostShare, upTo}
 use Rattle.density.proofs.sums.sum_to.Statement.{statement}
 use Rattle.density.proofs.sums.sum_to.Tie as tie
 
 abbrev Inv-loop : tie.InvT-loop
-Inv-loop jobs times m j n total₀ i₀ total i = (i ≤ n) × (total ≤ i * mostShare) × (total ≡ sum (adds (ofJobs jobs times) m j) i)
+Inv-loop times shares n j total₀ i₀ total i =
+    (i ≤ n) × (total ≤ i * mostShare) × (total ≡ sum (upTo (ofTimes times) j (λ i. getD shares i 0)) i)
 
 abbrev μ-loop : tie.MeasureT-loop
-μ-loop jobs times m j n total₀ i₀ total i = n - i
+μ-loop times shares n j total₀ i₀ total i = n - i
 
 loop-holds : tie.Need-loop-holds Inv-loop μ-loop
 unfolding sum
 loop-holds c = (omega arith, omega arith, refl)
 
-part-requires : tie.Need-part-requires Inv-loop μ-loop
-part-requires c κs = search needs
+sorts-before-requires : tie.Need-sorts-before-requires Inv-loop μ-loop
+sorts-before-requires c κs = search needs
+
+mul-total : tie.Need-mul-total Inv-loop μ-loop
+mul-total c = search needs
+
+element-copy-out-total : tie.Need-element-copy-out-total Inv-loop μ-loop
+element-copy-out-total c = search needs
 
 add-total : tie.Need-add-total Inv-loop μ-loop
-add-total c = search needs
+add-total c =
+    let l = c .before .before .before .before in
+    omega (arith, l .loop .inv .1, l .before .before .pre .2 .most (l .loop .i) (omega arith))
 
 add-i : tie.Need-add-i Inv-loop μ-loop
 add-i c = search needs
@@ -33,7 +45,17 @@ loop-less : tie.Need-loop-less Inv-loop μ-loop
 loop-less c = search needs
 
 loop-again : tie.Need-loop-again Inv-loop μ-loop
-loop-again c = (omega arith, omega arith, simp sum-more (omega arith))
+loop-again c =
+    let l = c .before .before .before in
+    let s = sym (c .before .sorts-before .ensures) in
+    ⊎-elim
+    (λ w. (
+      omega arith,
+      omega (arith, w .2, l .loop .inv .1, l .before .before .pre .2 .most (l .loop .i) (omega arith)),
+      simp (sum-more, s ∙ not-true _ (w .0 .taken)) (omega (arith, w .2)),
+    ))
+    (λ w. (omega arith, omega arith, simp (sum-more, s ∙ not-false _ (w .0 .left)) (omega arith)))
+    (c .if1 .came)
 
 returns : tie.Need-returns Inv-loop μ-loop
 returns c = (c .before .loop .inv .2 ∙ ap (sum _) (omega arith), omega arith)
@@ -45,7 +67,9 @@ sum-to-spec =
     Inv-loop
     μ-loop
     loop-holds
-    part-requires
+    sorts-before-requires
+    mul-total
+    element-copy-out-total
     add-total
     add-i
     loop-less
