@@ -10,7 +10,7 @@ mul-if1 : tie.Need-mul-if1
 mul-if1 c = search needs
 
 returns : tie.Need-returns
-returns c = put-short _ _ _ (pairs-length _ _ _) (c .if1 .taken)
+returns c = put-short _ _ _ (pairs-length _ _ _) (omega arith)
 
 write-requires : tie.Need-write-requires
 write-requires c κs = search needs

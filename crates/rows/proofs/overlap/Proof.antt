@@ -1,0 +1,10 @@
+-- Both tests as the promise has them.
+use mathlib.Core.Path.{refl}
+use Rattle.rows.proofs.overlap.Statement.{statement}
+use Rattle.rows.proofs.overlap.Tie as tie
+
+returns : tie.Need-returns
+returns c = refl
+
+pub overlap-spec : {M : Type 1} → statement M
+overlap-spec = tie.close (tie.spec returns)
