@@ -17,8 +17,8 @@ use Rattle.laws.specs.Rows.{largest-base, largest-at, largest-most, largest-ext
 use Rattle.laws.specs.Reach.{precedes-says}
 use Rattle.laws.specs.Refusals.{RowsRight, rows-none}
 use Rattle.rules.specs.Lists.{table}
-use Rattle.plan.specs.declared.modified.Way.the-variants.{Forward, Back}
-use Rattle.plan.specs.Rounds.{JobsIn, ArcsIn, Holds, Fit, sourceOf, targetOf, roundTo, short, windowFound, pairsTo}
+use Rattle.modified.specs.declared.Way.the-variants.{Forward, Back}
+use Rattle.modified.specs.Rounds.{JobsIn, ArcsIn, Holds, Fit, sourceOf, targetOf, roundTo, short, windowFound, pairsTo}
 
 -- the largest over the arcs to j is the largest over the jobs that lead to j
 by-arcs : (source target : ℕ → ℕ) (leads : ℕ → Bool) (f : ℕ → ℕ) (base m n j : ℕ)

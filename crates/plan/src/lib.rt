@@ -1,6 +1,4 @@
 // The table check with the modified times, and the judgement of a plan that is handed in.
-mod modified;
-
 use modified::Way;
 use rows::Judged;
 use rows::LATEST;
@@ -14,7 +12,7 @@ ghost use Rattle.rules.specs.Rows.{all};
 ghost use Rattle.rules.specs.Table.{jobCount};
 ghost use Rattle.rules.specs.Refusals.{planInBounds, timesRight};
 ghost use Rattle.rules.specs.Lists.{table, plan};
-ghost use Rattle.plan.specs.Rounds.{Fit, pairsTo};
+ghost use Rattle.modified.specs.Rounds.{Fit, pairsTo};
 ghost use Rattle.plan.specs.Promise.{Puts, Plans};
 
 // Whether a job's modified times lie in 0 to 1,000,000, window at least cost.

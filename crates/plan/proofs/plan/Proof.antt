@@ -10,7 +10,7 @@ use Rattle.rows.specs.Stages.{told}
 use Rattle.cycles.specs.Promise.{cyclesFault}
 use Rattle.plan.specs.Modified.{jobs-in, arcs-in, window-is, times-are, times-fit}
 use Rattle.plan.specs.Promise.{cycles-rows, check-are, plan-refused, plan-put}
-use Rattle.plan.specs.Rounds.{JobsIn, ArcsIn, Low, holds-low, windowFound}
+use Rattle.modified.specs.Rounds.{JobsIn, ArcsIn, Low, holds-low, windowFound}
 use Rattle.plan.proofs.plan.Statement.{statement}
 use Rattle.plan.proofs.plan.Tie as tie
 

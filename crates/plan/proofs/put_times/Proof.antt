@@ -2,7 +2,7 @@
 use native.Mathlib.Omega.{arith}
 use borrow.Author.Needs.{needs}
 use Rattle.plan.specs.Promise.{put-short, put-all}
-use Rattle.plan.specs.Rounds.{pairs-length}
+use Rattle.modified.specs.Rounds.{pairs-length}
 use Rattle.plan.proofs.put_times.Statement.{statement}
 use Rattle.plan.proofs.put_times.Tie as tie
 

@@ -5,9 +5,9 @@ use native.Mathlib.Omega.{arith}
 use lib.ListN.{length, getD, length-set}
 use borrow.Author.Count.{below-none}
 use borrow.Author.Needs.{needs}
-use Rattle.plan.specs.Rounds.{startOf, fill-more}
-use Rattle.plan.proofs.modified.starts.Statement.{statement}
-use Rattle.plan.proofs.modified.starts.Tie as tie
+use Rattle.modified.specs.Rounds.{startOf, fill-more}
+use Rattle.modified.proofs.starts.Statement.{statement}
+use Rattle.modified.proofs.starts.Tie as tie
 
 abbrev Inv-loop : tie.InvT-loop
 Inv-loop jobs way n v₀ j₀ v j = (j ≤ n) × (length v ≡ 64) × ((k : ℕ) → k < j → getD v k 0 ≡ startOf jobs way k)

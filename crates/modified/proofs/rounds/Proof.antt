@@ -4,9 +4,9 @@ use Prim.Native.Nat.{_/_, _≤_, _-_}
 use native.Mathlib.Omega.{arith}
 use lib.ListN.{length}
 use borrow.Author.Needs.{needs}
-use Rattle.plan.specs.Rounds.{Holds, roundTo, holds-low, round-none, round-more, round-stays, round-end}
-use Rattle.plan.proofs.modified.rounds.Statement.{statement}
-use Rattle.plan.proofs.modified.rounds.Tie as tie
+use Rattle.modified.specs.Rounds.{Holds, roundTo, holds-low, round-none, round-more, round-stays, round-end}
+use Rattle.modified.proofs.rounds.Statement.{statement}
+use Rattle.modified.proofs.rounds.Tie as tie
 
 abbrev Inv-loop : tie.InvT-loop
 Inv-loop jobs arcs way n v₀ k₀ v k = (k ≤ n) × (n ≡ length jobs / 3) × Holds jobs (roundTo jobs arcs way k) v

@@ -18,8 +18,8 @@ use Rattle.rules.specs.Refusals.{Fault, fault, atRow}
 use Rattle.laws.specs.Tests.{eq-says, yes-says}
 use Rattle.laws.specs.Rows.{all-at, largest-most, largest-ext}
 use Rattle.rows.specs.Stages.{at-found, at-none}
-use Rattle.plan.specs.declared.modified.Way.{Way}
-use Rattle.plan.specs.declared.modified.Way.the-variants.{Forward, Back}
+use Rattle.modified.specs.declared.Way.{Way}
+use Rattle.modified.specs.declared.Way.the-variants.{Forward, Back}
 
 -- ---- definitions
 

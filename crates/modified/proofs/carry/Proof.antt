@@ -3,9 +3,9 @@ use Prim.Native.Nat.{_/_, _<_}
 use native.Mathlib.Omega.{arith}
 use lib.ListN.{length}
 use borrow.Author.Needs.{needs}
-use Rattle.plan.specs.Rounds.{source-in, target-in, gain-in, carry-more, carry-keeps}
-use Rattle.plan.proofs.modified.carry.Statement.{statement}
-use Rattle.plan.proofs.modified.carry.Tie as tie
+use Rattle.modified.specs.Rounds.{source-in, target-in, gain-in, carry-more, carry-keeps}
+use Rattle.modified.proofs.carry.Statement.{statement}
+use Rattle.modified.proofs.carry.Tie as tie
 
 -- the ends of the arc are jobs of the table
 inside : (c : tie.After-ends-of)

@@ -5,9 +5,9 @@ use Prim.Native.Nat.{_≤_, _*_, _-_}
 use native.Mathlib.Omega.{arith}
 use lib.ListN.{length, drop, length-set}
 use borrow.Author.Needs.{needs}
-use Rattle.plan.specs.Rounds.{pairsTo, pairs-none, pairs-more, pairs-end}
-use Rattle.plan.proofs.modified.write.Statement.{statement}
-use Rattle.plan.proofs.modified.write.Tie as tie
+use Rattle.modified.specs.Rounds.{pairsTo, pairs-none, pairs-more, pairs-end}
+use Rattle.modified.proofs.write.Statement.{statement}
+use Rattle.modified.proofs.write.Tie as tie
 
 abbrev Inv-loop : tie.InvT-loop
 Inv-loop times₀ n releases tails j₀ times j = (j ≤ n) × (length times ≡ length times₀) × (times ≡ pairsTo releases tails j ++ drop (2 * j) times₀)

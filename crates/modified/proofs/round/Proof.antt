@@ -2,9 +2,9 @@
 use Prim.Native.Nat.{_≤_, _-_}
 use native.Mathlib.Omega.{arith}
 use borrow.Author.Needs.{needs}
-use Rattle.plan.specs.Rounds.{Holds, broughtTo, brought-none, brought-more, brought-end}
-use Rattle.plan.proofs.modified.round.Statement.{statement}
-use Rattle.plan.proofs.modified.round.Tie as tie
+use Rattle.modified.specs.Rounds.{Holds, broughtTo, brought-none, brought-more, brought-end}
+use Rattle.modified.proofs.round.Statement.{statement}
+use Rattle.modified.proofs.round.Tie as tie
 
 abbrev Inv-loop : tie.InvT-loop
 Inv-loop jobs arcs way old m new₀ a₀ new a = (a ≤ m) × Holds jobs (broughtTo jobs arcs way old a) new

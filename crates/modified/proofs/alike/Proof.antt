@@ -9,8 +9,8 @@ use borrow.Author.Needs.{needs}
 use borrow.Author.Tests.{eq-eqb, ne-eqb}
 use Rattle.rules.specs.Rows.{all}
 use Rattle.laws.specs.Rows.{all-not, all-next, all-end}
-use Rattle.plan.proofs.modified.alike.Statement.{statement}
-use Rattle.plan.proofs.modified.alike.Tie as tie
+use Rattle.modified.proofs.alike.Statement.{statement}
+use Rattle.modified.proofs.alike.Tie as tie
 
 abbrev Inv-loop : tie.InvT-loop
 Inv-loop old new n j₀ j = (j ≤ n) × (all (λ i. eqb (getD old i 0) (getD new i 0)) j ≡ true)

@@ -1,8 +1,8 @@
 -- Each way has its own column.
 use mathlib.Core.Path.{refl}
 use borrow.Author.Needs.{needs}
-use Rattle.plan.proofs.modified.start.Statement.{statement}
-use Rattle.plan.proofs.modified.start.Tie as tie
+use Rattle.modified.proofs.start.Statement.{statement}
+use Rattle.modified.proofs.start.Tie as tie
 
 enum-told : tie.Need-enum-told
 enum-told c = search needs

@@ -12,7 +12,7 @@ ghost use Rattle.rules.specs.Rows.{all};
 ghost use lib.ListN.{length, getD, drop};
 ghost use Rattle.rules.specs.Table.{latest};
 ghost use Rattle.rows.specs.Judged.{faultIn};
-ghost use Rattle.plan.specs.Rounds.{JobsIn, ArcIn, ArcsIn, Low, Holds, Fit, sourceOf, targetOf, startOf, gainOf, raised, brought, broughtTo, roundTo, windowFound, pairsTo};
+ghost use Rattle.modified.specs.Rounds.{JobsIn, ArcIn, ArcsIn, Low, Holds, Fit, sourceOf, targetOf, startOf, gainOf, raised, brought, broughtTo, roundTo, windowFound, pairsTo};
 
 // Releases go forward along the arcs, deadlines back.
 pub enum Way {

@@ -1,7 +1,7 @@
 -- Each way has its own order of the two ends.
 use borrow.Author.Needs.{needs}
-use Rattle.plan.proofs.modified.ends_of.Statement.{statement}
-use Rattle.plan.proofs.modified.ends_of.Tie as tie
+use Rattle.modified.proofs.ends_of.Statement.{statement}
+use Rattle.modified.proofs.ends_of.Tie as tie
 
 mul-wide : tie.Need-mul-wide
 mul-wide c = search needs

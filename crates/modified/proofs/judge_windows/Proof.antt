@@ -6,9 +6,9 @@ use native.Mathlib.Omega.{arith}
 use borrow.Author.Count.{below-none, below-more}
 use borrow.Author.Needs.{needs}
 use borrow.Author.Tests.{le-ltb}
-use Rattle.plan.specs.Rounds.{short, window-at, window-none}
-use Rattle.plan.proofs.modified.judge_windows.Statement.{statement}
-use Rattle.plan.proofs.modified.judge_windows.Tie as tie
+use Rattle.modified.specs.Rounds.{short, window-at, window-none}
+use Rattle.modified.proofs.judge_windows.Statement.{statement}
+use Rattle.modified.proofs.judge_windows.Tie as tie
 
 abbrev Inv-loop : tie.InvT-loop
 Inv-loop jobs releases tails n j₀ j = (j ≤ n) × ((k : ℕ) → k < j → short jobs releases tails k ≡ false)

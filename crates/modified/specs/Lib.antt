@@ -1,0 +1,2 @@
+-- Laws for the rounds over the arcs, the windows and the pairs that are written.
+pub mod Rounds
