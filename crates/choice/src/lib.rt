@@ -48,13 +48,7 @@ fn span_of(times: &[u32], job: usize) -> Span
 fn first_key(a: Instant, b: Instant, tie: bool) -> bool
     ensures { λ r. ⌜ r ≡ (ltb (a .0) (b .0) || (eqb (a .0) (b .0) && tie)) ⌝ }
 {
-    if a.earlier(b) {
-        return true;
-    }
-    if a.same(b) {
-        return tie;
-    }
-    false
+    a.earlier(b) | (a.same(b) & tie)
 }
 
 // Whether job i comes before job j in the order: by deadline, then by release, then by number.
@@ -70,16 +64,7 @@ fn comes_before(times: &[u32], i: usize, j: usize) -> bool
 fn is_candidate(release: Instant, tick: u32, executed: u32, cost: u32, started_only: bool) -> bool
     ensures { λ r. ⌜ r ≡ (leb (release .0) tick && ltb executed cost && (not «started_only» || ltb 0 executed)) ⌝ }
 {
-    if tick < release.0 {
-        return false;
-    }
-    if cost <= executed {
-        return false;
-    }
-    if started_only {
-        return 0 < executed;
-    }
-    true
+    (release.0 <= tick) & (executed < cost) & (!started_only | (0 < executed))
 }
 
 // The turn of the choice: job j against the best so far, which is past the last job where there is none.

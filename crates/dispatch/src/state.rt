@@ -13,13 +13,7 @@ fn job_state_right(jobs: &[u32], executed: &[u32], marks: &[u32], finish: &[u32]
     requires { ⌜ Same (now jobs) (now executed) (now marks) (now finish) × (j < length (now executed)) ⌝ }
     ensures { λ r. ⌜ r ≡ jobStateRight (timed (now (jobs .entry)) []) (state 0 (now (executed .entry)) (now (marks .entry)) (now (finish .entry))) j ⌝ }
 {
-    if jobs[3 * j + 1] < executed[j] {
-        return false;
-    }
-    if 2 < marks[j] {
-        return false;
-    }
-    finish[j] <= 10000000
+    (executed[j] <= jobs[3 * j + 1]) & ((marks[j] <= 2) & (finish[j] <= 10000000))
 }
 
 // Whether a state belongs to this many jobs and is within bounds.

@@ -16,7 +16,7 @@ use Rattle.rules.specs.Tick.{chosen}
 use Rattle.rules.specs.Run.{onward}
 use borrow.Author.Tests.{lt-ltb}
 use Rattle.laws.specs.Tests.{Says, lt-says, eq-says, says-and, yes-says, yes-of}
-use Rattle.laws.specs.Rows.{smallest-base, smallest-at, smallest-least, smallest-falls}
+use Rattle.laws.specs.Rows.{smallest-base, smallest-at, smallest-least}
 use Rattle.laws.specs.Chosen.{chosen-left}
 use Rattle.laws.specs.Events.{Unreleased, Quiet, advanceBy, answered-at-once, given-unended, ticks-idle, idle-unended}
 use Rattle.rules.specs.Lists.{plan, state, timed}
@@ -96,13 +96,6 @@ module _ (sections : List ℕ) (job done cost n : ℕ) where
   pub stop-after : done < cost → done < nextStop sections job done cost n
   unfolding nextStop
   stop-after l = smallest-least own (λ s. getD sections (4 * s + 3) 0) cost n (suc done) l (λ s h e. yes-says (own-says s) e .1)
-
-  -- no stop is nearer than the next tick
-  pub stop-nearest : done < cost → (m : ℕ) → m ≤ n → nextStop sections job done cost m ≡ done + 1
-      → nextStop sections job done cost m ≡ nextStop sections job done cost n
-  unfolding nextStop
-  stop-nearest l m h e =
-      omega (arith, stop-after l, smallest-falls own (λ s. getD sections (4 * s + 3) 0) cost m n h)
 
   pub stop-least : (s : ℕ) → s < n → getD sections (4 * s) 0 ≡ job → done < getD sections (4 * s + 3) 0
       → nextStop sections job done cost n ≤ getD sections (4 * s + 3) 0

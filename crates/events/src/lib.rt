@@ -58,20 +58,14 @@ fn stop_by(sections: &[u32], job: usize, done: u32, s: usize, stop: u32) -> u32
     stop
 }
 
-// The executed ticks at which the job next passes the end of one of its sections, and at most its cost. Nothing is nearer than
-// its next tick, so a stop there ends the look.
+// The executed ticks at which the job next passes the end of one of its sections, and at most its cost.
 fn next_stop(sections: &[u32], job: usize, done: u32, cost: u32) -> u32
-    requires { ⌜ done < cost ⌝ }
     ensures { λ r. ⌜ r ≡ nextStop (now (sections .entry)) job done cost (length (now (sections .entry)) / 4) ⌝ }
 {
     let many = sections.len() / 4;
-    let nearest = done + 1;
     let mut stop = cost;
     let mut s = 0;
     while s < many {
-        if stop == nearest {
-            return stop;
-        }
         stop = stop_by(sections, job, done, s, stop);
         s += 1;
     }

@@ -74,10 +74,6 @@ module _ (f : ℕ → Bool) where
 -- ---- the step at the code's n + 1
 
 module _ (f : ℕ → Bool) (n : ℕ) where
-  pub any-more : any f (n + 1) ≡ (any f n || f n)
-  unfolding any
-  any-more = rw add-one
-
   pub count-more : count f (n + 1) ≡ count f n + cond (f n) 1 0
   unfolding count
   count-more = rw add-one
@@ -250,11 +246,6 @@ module _ (passes : ℕ → Bool) (f : ℕ → ℕ) (base : ℕ) where
   smallest-least (suc n) m b h =
       let ih = smallest-least n m b (λ k l. h k (omega arith)) in
       turn (λ x. m ≤ x) (passes n) _ _ ih (λ e. omega (arith, h n (omega arith) e))
-
-  -- among more rows it is no larger
-  pub smallest-falls : (m n : ℕ) → m ≤ n → smallest passes f base n ≤ smallest passes f base m
-  smallest-falls m n l =
-      smallest-least m (smallest passes f base n) (smallest-base n) (λ k h e. smallest-at n k (omega arith) e)
 
 module _ (passes passes′ : ℕ → Bool) (f g : ℕ → ℕ) (base : ℕ) where
   pub largest-ext : (n : ℕ) → ((k : ℕ) → k < n → passes k ≡ passes′ k) → ((k : ℕ) → k < n → passes k ≡ true → f k ≡ g k)

@@ -1,8 +1,8 @@
--- The smallest end after `done` of the sections gone through, which may be the nearest there can be.
-use Rattle.events.specs.Events.{nextStop, stop-nearest}
+-- The smallest end after `done` of the sections gone through.
+use Rattle.events.specs.Events.{nextStop}
 use Rattle.laws.specs.Rows.{smallest-more}
 use Rattle.rules.specs.Rows.{smallest}
-use mathlib.Core.Path.{_≡_, refl, _∙_}
+use mathlib.Core.Path.{_≡_, refl}
 use Prim.Native.Nat.{_/_, _-_, _≤_}
 use native.Mathlib.Omega.{arith}
 use lib.ListN.{length}
@@ -11,23 +11,14 @@ use Rattle.events.proofs.next_stop.Statement.{statement}
 use Rattle.events.proofs.next_stop.Tie as tie
 
 abbrev Inv-loop : tie.InvT-loop
-Inv-loop sections job done cost many nearest stop₀ s₀ stop s = (s ≤ many) × (stop ≡ nextStop sections job done cost s)
+Inv-loop sections job done cost many stop₀ s₀ stop s = (s ≤ many) × (stop ≡ nextStop sections job done cost s)
 
 abbrev μ-loop : tie.MeasureT-loop
-μ-loop sections job done cost many nearest stop₀ s₀ stop s = many - s
-
-add-nearest : tie.Need-add-nearest Inv-loop μ-loop
-add-nearest c = search needs
+μ-loop sections job done cost many stop₀ s₀ stop s = many - s
 
 loop-holds : tie.Need-loop-holds Inv-loop μ-loop
 unfolding nextStop smallest
 loop-holds c = (omega arith, refl)
-
-returns : tie.Need-returns Inv-loop μ-loop
-returns c =
-    let l = c .before .before in
-    let i = l .loop .inv .1 in
-    i ∙ stop-nearest _ _ _ _ _ (omega arith) _ (omega arith) (omega arith)
 
 stop-by-requires : tie.Need-stop-by-requires Inv-loop μ-loop
 stop-by-requires c κs = search needs
@@ -40,10 +31,10 @@ loop-less c = search needs
 
 loop-again : tie.Need-loop-again Inv-loop μ-loop
 unfolding nextStop
-loop-again c = (omega arith, rw (smallest-more, ← c .before .before .before .loop .inv .1) (c .stop-by .ensures))
+loop-again c = (omega arith, rw (smallest-more, ← c .before .before .loop .inv .1) (c .stop-by .ensures))
 
-returns-2 : tie.Need-returns-2 Inv-loop μ-loop
-returns-2 c =
+returns : tie.Need-returns Inv-loop μ-loop
+returns c =
     let e : c .before .loop .s ≡ length (c .before .before .before .args .sections .now) / 4 = omega arith in
     rw (← e) (c .before .loop .inv .1)
 
@@ -53,11 +44,9 @@ next-stop-spec =
     (tie.spec
     Inv-loop
     μ-loop
-    add-nearest
     loop-holds
-    returns
     stop-by-requires
     add-s
     loop-less
     loop-again
-    returns-2)
+    returns)
