@@ -8,7 +8,7 @@ use Rattle.rules.specs.Table.{owner}
 use Rattle.rules.specs.Refusals.{planInBounds}
 use Rattle.laws.specs.Refusals.{bounds-rows, bounds-times}
 use Rattle.rules.specs.Lists.{plan}
-use Rattle.density.specs.Sums.{JobsIn, SectionsIn}
+use Rattle.sums.specs.Sums.{JobsIn, SectionsIn}
 
 module _ (jobs arcs sections times : List ℕ) {b : Bool} (e : b ≡ planInBounds (plan jobs arcs sections times)) (f : b ≡ true) where
   right : planInBounds (plan jobs arcs sections times) ≡ true

@@ -7,7 +7,7 @@ use Prim.Native.Nat.{ℕ, _+_, _<_}
 use Rattle.rules.specs.Rows.{better, first}
 use Rattle.rules.specs.Density.{sortsBefore, fails}
 use Rattle.laws.specs.First.{first-more}
-use Rattle.density.specs.Lists.{ofTimes, ofBoth}
+use Rattle.sums.specs.Lists.{ofTimes, ofBoth}
 use Rattle.density.specs.declared.failing.Found.{Found}
 use Rattle.density.specs.declared.failing.Found.the-variants.{Nothing, Job}
 

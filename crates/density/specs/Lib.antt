@@ -1,9 +1,6 @@
 -- The density test: divisors and multiples, the order of places, the sums, the first failing job, the promise of the entry.
-pub mod Lists
 pub mod Divides
 pub mod Multiple
-pub mod Order
-pub mod Sums
 pub mod Bounds
 pub mod Failing
 pub mod Promise

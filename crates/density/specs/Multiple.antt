@@ -6,19 +6,13 @@ use native.Mathlib.Nat.{le-div-iff-mul-le, div-lt-iff-lt-mul}
 use native.Mathlib.Numerals.{add-one}
 use native.Mathlib.Decide.{ℕ-discrete}
 use native.Mathlib.Omega.{arith}
-use lib.ListN.{length}
 use Rattle.rules.specs.Table.{Plan, span}
 use Rattle.rules.specs.Density.{gcd, lcm, multipleTo, mostMultiple}
 use Rattle.rules.specs.Lists.{plan}
-use Rattle.density.specs.Lists.{ofTimes}
+use Rattle.sums.specs.Lists.{ofTimes}
 use Rattle.density.specs.Divides.{Divides, Lcm, gcd-some, lcm-is, lcm-some, divides-le, divides-trans}
 use Rattle.density.specs.declared.multiple.Common.{Common}
 use Rattle.density.specs.declared.multiple.Common.the-variants.{Of, Over}
-
--- The first n jobs have their times, and a relative deadline above 0.
-pub record SpansIn (times : List ℕ) (n : ℕ) : Type 0 where
-  pub pairs : 2 * n ≤ length times
-  pub some : (j : ℕ) → j < n → 0 < span (ofTimes times) j
 
 -- What the code says of a multiple: it, or that it exceeds the limit.
 abbrev pub Tells : ℕ → Common → Type 0

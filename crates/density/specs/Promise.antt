@@ -14,9 +14,9 @@ use Rattle.rules.specs.Refusals.{faultOf, Outcome, refused, gives, andThen, pla
 use Rattle.rules.specs.Density.{sortsBefore, placeOfJob, placeOrYes, fails, failingPlace, multipleTo, multiple, mostMultiple, densityFault, density}
 use Rattle.rules.specs.declared.Refusal.the-variants.{Bounds, Multiple}
 use Rattle.rules.specs.Lists.{plan}
-use Rattle.density.specs.Lists.{ofTimes, ofBoth}
+use Rattle.sums.specs.Lists.{ofTimes, ofBoth}
 use Rattle.density.specs.Multiple.{Tells, told-within, told-over, same-multiple}
-use Rattle.density.specs.Sums.{same-fails}
+use Rattle.sums.specs.Sums.{same-fails}
 use Rattle.density.specs.Failing.{asOption}
 use Rattle.density.specs.declared.failing.Found.{Found}
 use Rattle.density.specs.declared.failing.Found.the-variants.{Nothing, Job}

@@ -14,7 +14,7 @@ use Rattle.rules.specs.Table.{Plan, span}
 use Rattle.rules.specs.Density.{sortsBefore}
 use Rattle.laws.specs.Tests.{tested, clash, yes-of, no-says}
 use Rattle.laws.specs.Rows.{sum-ext, sum-term, sum-but-one, sum-none, count-sum, Lowest, lowest-told}
-use Rattle.density.specs.Order.{Sooner, shorter, lower, sorts-says, sorts-order}
+use Rattle.sums.specs.Order.{Sooner, shorter, lower, sorts-says, sorts-order}
 
 -- ---- sums
 

@@ -20,8 +20,8 @@ use Rattle.laws.specs.Rows.{sum-ext, lowest-is}
 use Rattle.laws.specs.First.{FirstOf, nobody, found, first-of}
 use Rattle.density.specs.Divides.{Divides, gcd-is, common, divisor-some, quotient}
 use Rattle.density.specs.Multiple.{multiple-each, multiple-divides}
-use Rattle.density.specs.Order.{sorts-order}
-use Rattle.density.specs.Sums.{adds}
+use Rattle.sums.specs.Order.{sorts-order}
+use Rattle.sums.specs.Sums.{adds}
 use Rattle.density.specs.Sorted.{Sorting, sorting-of, sum-first, sum-scale, count-before}
 use Rattle.density.specs.Promise.{Answer, said, Answers}
 use Rattle.density.specs.declared.Verdict.{Verdict}

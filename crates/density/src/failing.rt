@@ -1,13 +1,12 @@
 // The lowest failing place, by one pass over the jobs.
-use crate::order::sorts_before;
-use crate::sums;
+use sums::order::sorts_before;
 ghost use mathlib.Core.Path.{_≡_};
 ghost use Prim.Native.Nat.{_/_, _<_, _≤_};
 ghost use lib.ListN.{length};
 ghost use Rattle.rules.specs.Rows.{better, first};
 ghost use Rattle.rules.specs.Density.{sortsBefore, fails, mostMultiple};
-ghost use Rattle.density.specs.Lists.{ofTimes, ofBoth};
-ghost use Rattle.density.specs.Sums.{JobsIn, SectionsIn};
+ghost use Rattle.sums.specs.Lists.{ofTimes, ofBoth};
+ghost use Rattle.sums.specs.Sums.{JobsIn, SectionsIn};
 ghost use Rattle.density.specs.Failing.{Within, asOption};
 
 // The failing job that stands first so far.

@@ -1,8 +1,6 @@
 // The density test of a plan that is handed in.
 mod failing;
 mod multiple;
-mod order;
-mod sums;
 
 use crate::failing::Found;
 use crate::multiple::Common;
@@ -12,8 +10,8 @@ ghost use Prim.Native.Nat.{_≤_};
 ghost use Rattle.rules.specs.Refusals.{gives};
 ghost use Rattle.rules.specs.Density.{failingPlace, mostMultiple};
 ghost use Rattle.rules.specs.Lists.{plan};
-ghost use Rattle.density.specs.Lists.{ofBoth};
-ghost use Rattle.density.specs.Sums.{JobsIn, SectionsIn};
+ghost use Rattle.sums.specs.Lists.{ofBoth};
+ghost use Rattle.sums.specs.Sums.{JobsIn, SectionsIn};
 ghost use Rattle.density.specs.Promise.{answerAt, said, Answers};
 
 // What the test says: it is refused, or yes, or no with the lowest failing place, from 1.
@@ -31,7 +29,7 @@ fn judge(jobs: &[u32], sections: &[u32], times: &[u32], m: u32) -> Verdict
     let found = failing::first_failing(jobs, sections, times, m);
     match found {
         Found::Nothing => Verdict::Yes,
-        Found::Job(j) => Verdict::No(order::before(times, jobs.len() / 3, j) + 1),
+        Found::Job(j) => Verdict::No(sums::order::before(times, jobs.len() / 3, j) + 1),
     }
 }
 

@@ -1,11 +1,11 @@
 // The least common multiple of all relative deadlines, by Euclid's algorithm.
-use crate::order::span_of;
+use sums::order::span_of;
 ghost use mathlib.Core.Path.{_≡_};
 ghost use Prim.Native.Nat.{_*_, _<_};
 ghost use Rattle.rules.specs.Density as rules;
 ghost use Rattle.rules.specs.Density.{multipleTo};
-ghost use Rattle.density.specs.Lists.{ofTimes};
-ghost use Rattle.density.specs.Multiple.{SpansIn, Tells};
+ghost use Rattle.sums.specs.Lists.{ofTimes, SpansIn};
+ghost use Rattle.density.specs.Multiple.{Tells};
 
 const MOST: u32 = 1_000_000_000;
 

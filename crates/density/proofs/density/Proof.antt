@@ -3,7 +3,7 @@ use native.Mathlib.Omega.{arith}
 use borrow.Author.Needs.{needs}
 use borrow.Author.Tests.{not-true, not-false}
 use Rattle.density.specs.Multiple.{told-within}
-use Rattle.density.specs.Sums.{JobsIn, SectionsIn}
+use Rattle.sums.specs.Sums.{JobsIn, SectionsIn}
 use Rattle.density.specs.Bounds.{jobs-in, sections-in}
 use Rattle.density.specs.Promise.{answers-bounds, answers-multiple, answers-place}
 use Rattle.density.proofs.density.Statement.{statement}

@@ -2,7 +2,7 @@
 use native.Mathlib.Omega.{arith}
 use borrow.Author.Needs.{needs}
 use Rattle.rules.specs.Density.{sortsBefore}
-use Rattle.density.specs.Lists.{ofBoth}
+use Rattle.sums.specs.Lists.{ofBoth}
 use Rattle.density.specs.Failing.{job-within}
 use Rattle.density.specs.Promise.{said-yes, said-no}
 use Rattle.density.proofs.judge.Statement.{statement}

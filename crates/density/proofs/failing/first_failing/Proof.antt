@@ -6,7 +6,7 @@ use lib.ListN.{length}
 use borrow.Author.Needs.{needs}
 use Rattle.rules.specs.Rows.{first}
 use Rattle.rules.specs.Density.{sortsBefore, fails}
-use Rattle.density.specs.Lists.{ofBoth}
+use Rattle.sums.specs.Lists.{ofBoth}
 use Rattle.density.specs.Failing.{Within, asOption, first-turn}
 use Rattle.density.proofs.failing.first_failing.Statement.{statement}
 use Rattle.density.proofs.failing.first_failing.Tie as tie

@@ -4,7 +4,7 @@ use Prim.Native.Nat.{_≤_, _-_}
 use native.Mathlib.Omega.{arith}
 use borrow.Author.Needs.{needs}
 use Rattle.rules.specs.Density.{multipleTo, mostMultiple}
-use Rattle.density.specs.Lists.{ofTimes}
+use Rattle.sums.specs.Lists.{ofTimes}
 use Rattle.density.specs.Multiple.{multiple-none, multiple-turn, multiple-over, multiple-end}
 use Rattle.density.proofs.multiple.multiple.Statement.{statement}
 use Rattle.density.proofs.multiple.multiple.Tie as tie
