@@ -1,8 +1,8 @@
 // Modified times, by rounds over the arcs: each round reads the times of the round before. Releases go forward along the
 // arcs and deadlines back. A deadline is worked on as its tail, how long before 1,000,000 it lies: then both ways take the
 // largest, a deadline less a cost is a tail and that cost, and nothing falls below zero.
+use row_rules::LATEST;
 use rows::Judged;
-use rows::LATEST;
 use rules::Refusal;
 ghost use mathlib.Core.Path.{_≡_};
 ghost use mathlib.Core.List.{_++_};

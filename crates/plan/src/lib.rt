@@ -1,7 +1,7 @@
 // The table check with the modified times, and the judgement of a plan that is handed in.
 use modified::Way;
+use row_rules::LATEST;
 use rows::Judged;
-use rows::LATEST;
 use rules::Instant;
 use rules::Refusal;
 ghost use mathlib.Core.Path.{_≡_};

@@ -9,9 +9,9 @@ use Rattle.rules.specs.Refusals.{clash}
 use Rattle.rules.specs.Rows.{any}
 use Rattle.laws.specs.Rows.{any-next}
 use Rattle.rules.specs.Lists.{table}
-use Rattle.rows.specs.Stages.{clashes-yes, clashes-no}
-use Rattle.rows.proofs.clashes.Statement.{statement}
-use Rattle.rows.proofs.clashes.Tie as tie
+use Rattle.row_rules.specs.Row.{clashes-yes, clashes-no}
+use Rattle.row_rules.proofs.clashes.Statement.{statement}
+use Rattle.row_rules.proofs.clashes.Tie as tie
 
 abbrev Inv-loop : tie.InvT-loop
 Inv-loop sections s k₀ k = (k ≤ s) × (any (λ i. clash (table [] [] sections) i s) k ≡ false)

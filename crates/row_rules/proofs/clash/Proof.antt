@@ -1,9 +1,9 @@
 -- Of one job: the tests are those of the definition, on the ranges as they stand in the rows.
 use borrow.Author.Needs.{needs}
 use Rattle.rules.specs.Refusals.{overlap, within}
-use Rattle.rows.specs.Stages.{clash-apart, clash-last}
-use Rattle.rows.proofs.clash.Statement.{statement}
-use Rattle.rows.proofs.clash.Tie as tie
+use Rattle.row_rules.specs.Row.{clash-apart, clash-last}
+use Rattle.row_rules.proofs.clash.Statement.{statement}
+use Rattle.row_rules.proofs.clash.Tie as tie
 
 mul-if1 : tie.Need-mul-if1
 mul-if1 c = search needs

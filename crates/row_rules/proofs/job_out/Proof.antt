@@ -4,9 +4,9 @@ use native.Mathlib.Omega.{arith}
 use borrow.Author.Needs.{needs}
 use Rattle.laws.specs.Refusals.{job-says}
 use Rattle.laws.specs.Tests.{yes-of}
-use Rattle.rows.specs.Stages.{job-last}
-use Rattle.rows.proofs.job_out.Statement.{statement}
-use Rattle.rows.proofs.job_out.Tie as tie
+use Rattle.row_rules.specs.Row.{job-last}
+use Rattle.row_rules.proofs.job_out.Statement.{statement}
+use Rattle.row_rules.proofs.job_out.Tie as tie
 
 mul-if1 : tie.Need-mul-if1
 mul-if1 c = search needs

@@ -4,9 +4,9 @@ use native.Mathlib.Omega.{arith}
 use borrow.Author.Needs.{needs}
 use Rattle.laws.specs.Refusals.{section-says}
 use Rattle.laws.specs.Tests.{yes-of}
-use Rattle.rows.specs.Stages.{section-last}
-use Rattle.rows.proofs.section_out.Statement.{statement}
-use Rattle.rows.proofs.section_out.Tie as tie
+use Rattle.row_rules.specs.Row.{section-last}
+use Rattle.row_rules.proofs.section_out.Statement.{statement}
+use Rattle.row_rules.proofs.section_out.Tie as tie
 
 mul-wide : tie.Need-mul-wide
 mul-wide c = search needs

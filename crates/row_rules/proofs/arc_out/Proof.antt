@@ -1,8 +1,8 @@
 -- Both tests as the definition has them.
 use borrow.Author.Needs.{needs}
 use Rattle.rules.specs.Refusals.{arcOut}
-use Rattle.rows.proofs.arc_out.Statement.{statement}
-use Rattle.rows.proofs.arc_out.Tie as tie
+use Rattle.row_rules.proofs.arc_out.Statement.{statement}
+use Rattle.row_rules.proofs.arc_out.Tie as tie
 
 mul-wide : tie.Need-mul-wide
 mul-wide c = search needs

@@ -1,0 +1,2 @@
+-- Laws for the rules of one row.
+pub mod Row
