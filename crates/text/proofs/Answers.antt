@@ -17,7 +17,8 @@ use Rattle.rules.specs.declared.Refusal.the-variants.{Jobs, Arcs, Sections, Roo
 use Rattle.laws.specs.Text.{lengthRight, countFault, count-fault, counted-is}
 use Rattle.text.specs.declared.Writing.the-variants.{Refused, Bytes}
 use Rattle.lines.specs.Put.{Over}
-use Rattle.text.specs.Passes.{TableCounted, textFrom, fronts, Fronts}
+use Rattle.text.specs.Passes.{fronts, Fronts}
+use Rattle.parts.specs.Parts.{TableCounted, textFrom}
 use Rattle.text.specs.declared.Reading.{Reading}
 use Rattle.text.specs.declared.Reading.the-variants.{Counts}
 use Rattle.text.specs.Promises.{readInto, rowsOf, Reads, writeInto, Writes}

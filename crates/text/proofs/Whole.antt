@@ -8,10 +8,10 @@ use lib.Seq.{drop-cons}
 use Rattle.rules.specs.Refusals.{Fault, fault, refused}
 use Rattle.rules.specs.Text.{jobPart, arcPart, sectionPart, readPart, read}
 use Rattle.laws.specs.Text.{read-parts, part-is}
-use Rattle.text.specs.declared.parts.Part.{Part}
-use Rattle.text.specs.Parts.{partOf, sound}
+use Rattle.parts.specs.declared.Part.{Part}
+use Rattle.parts.specs.Parts.{partOf, sound}
 use Rattle.text.specs.Passes.{Gives, Fronts}
-use Rattle.text.proofs.Rows.{few-values}
+use Rattle.parts.specs.Rows.{few-values}
 
 -- the next part starts soon enough
 pub next-line : (p : Part) (first : ℕ) (u : List ℕ) {t out : List ℕ} {count at line : ℕ}

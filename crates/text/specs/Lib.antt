@@ -1,5 +1,4 @@
 -- What the reader and the writer of a table's text promise, and what their parts do.
-pub mod Parts
 pub mod Promises
 pub mod Passes
 pub mod Theorems

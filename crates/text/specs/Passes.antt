@@ -1,18 +1,16 @@
--- What each pass over a text or a table does with a part of it.
+-- What reading a part and reading a text come to.
 use mathlib.Core.Path.{_≡_}
 use mathlib.Core.List.{List}
 use Prim.Native.Nat.{ℕ, _*_, _≤_}
 use lib.ListN.{length, take, drop}
 use Rattle.rules.specs.Table.{Table}
 use Rattle.rules.specs.Refusals.{faultOf, Outcome, refused, gives}
-use Rattle.rules.specs.Text.{Part, jobPart, arcPart, sectionPart, Taken, read, textOf}
-use Rattle.laws.specs.Text.{taken, Counted}
+use Rattle.rules.specs.Text.{Part, Taken, read}
+use Rattle.laws.specs.Text.{taken}
 use Rattle.text.specs.declared.reader.PartRead.{PartRead}
 use Rattle.text.specs.declared.reader.PartRead.the-variants.{Rows, Refused}
 use Rattle.text.specs.declared.Reading.{Reading}
 use Rattle.text.specs.declared.Reading.the-variants.{Counts}
-
--- ---- reading
 
 -- o gives so many rows, whose values stand in the front of `out`, and goes on at line `line`, at the place `at` of t
 pub record Gives (b : Part) (t : List ℕ) (o : Outcome Taken) (out : List ℕ) (count at line : ℕ) : Type 0 where
@@ -41,15 +39,3 @@ pub record Fronts (text jobs arcs sections : List ℕ) (j a s : ℕ) : Type 0 wh
 abbrev pub ReadsText : (text jobs arcs sections : List ℕ) → Reading → Type 0
 ReadsText text jobs arcs sections (Counts j a s) = Fronts text jobs arcs sections j a s
 ReadsText text jobs arcs sections (Reading.Refused r) = read text ≡ refused (faultOf r)
-
--- ---- writing
-
--- the lengths of the three lists are right
-pub record TableCounted (jobs arcs sections : List ℕ) : Type 0 where
-  pub jobs-counted : Counted jobPart jobs
-  pub arcs-counted : Counted arcPart arcs
-  pub sections-counted : Counted sectionPart sections
-
--- the text of three lists
-abbrev pub textFrom : List ℕ → List ℕ → List ℕ → List ℕ
-textFrom jobs arcs sections = textOf record { jobs = jobs; arcs = arcs; sections = sections }

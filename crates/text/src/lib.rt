@@ -3,9 +3,7 @@ ghost use Rattle.text.specs.Promises.{Reads, Writes};
 use parts::Part;
 use rules::Refusal;
 
-mod parts;
 mod reader;
-mod writer;
 
 // What `read` answers: why the text is refused, or how many jobs, arcs and sections it has.
 pub enum Reading {
@@ -64,10 +62,10 @@ pub fn write(jobs: &[u32], arcs: &[u32], sections: &[u32], out: &mut [u8]) -> Wr
     if !Part::Sections.right_length(sections.len()) {
         return Writing::Refused(Refusal::Sections(0));
     }
-    let needed = writer::text_length(jobs, arcs, sections);
+    let needed = parts::writer::text_length(jobs, arcs, sections);
     if out.len() < needed {
         return Writing::Refused(Refusal::Room);
     }
-    writer::put_text(out, jobs, arcs, sections);
+    parts::writer::put_text(out, jobs, arcs, sections);
     Writing::Bytes(needed)
 }

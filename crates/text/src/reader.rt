@@ -4,12 +4,12 @@ ghost use Prim.Native.Nat.{_*_, _<_, _≤_};
 ghost use lib.ListN.{length, drop};
 ghost use lib.Seq.{paste};
 ghost use Rattle.rules.specs.Text.{readValues, readPart};
-ghost use Rattle.text.specs.Parts.{partOf, mostValues};
+ghost use Rattle.parts.specs.Parts.{partOf, mostValues};
 ghost use Rattle.text.specs.Passes.{ReadsPart, ReadsText};
 use crate::Reading;
-use crate::parts::Part;
 use lines::leaves;
 use lines::leaves::Found;
+use parts::Part;
 use rules::Refusal;
 
 // What reading a part comes to: how many rows it has, the place after it and the number of the line there; or a refusal.

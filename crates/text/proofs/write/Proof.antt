@@ -7,7 +7,7 @@ use borrow.Author.Tests.{not-true, not-false}
 use lib.ListN.{length}
 use Rattle.rules.specs.Text.{jobPart, arcPart, sectionPart}
 use Rattle.laws.specs.Text.{lengthRight}
-use Rattle.text.specs.Passes.{TableCounted}
+use Rattle.parts.specs.Parts.{TableCounted}
 use Rattle.text.proofs.Answers.{no-jobs, no-arcs, no-sections, all-counted, no-room, writes}
 use Rattle.text.proofs.write.Statement.{statement}
 use Rattle.text.proofs.write.Tie as tie

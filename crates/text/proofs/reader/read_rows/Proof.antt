@@ -8,7 +8,7 @@ use lib.ListN.{length, drop, length-drop, length-set}
 use Rattle.rules.specs.Text.{key, lineValue}
 use Rattle.lines.specs.declared.leaves.Found.the-variants.{Value}
 use Rattle.lines.specs.Leaves.{Took}
-use Rattle.text.specs.Parts.{partOf}
+use Rattle.parts.specs.Parts.{partOf}
 use Rattle.text.proofs.Walking.{line-at, Walking, begun, stopped, walked, ended}
 use Rattle.text.proofs.reader.read_rows.Statement.{statement}
 use Rattle.text.proofs.reader.read_rows.Tie as tie

@@ -5,7 +5,7 @@ use Prim.Native.Nat.{ℕ}
 use native.Mathlib.Omega.{arith}
 use lib.ListN.{drop}
 use Rattle.rules.specs.Text.{jobPart, arcPart, sectionPart, readPart}
-use Rattle.text.specs.declared.parts.Part.the-variants.{Jobs, Arcs}
+use Rattle.parts.specs.declared.Part.the-variants.{Jobs, Arcs}
 use Rattle.text.specs.Passes.{Gives}
 use Rattle.text.proofs.Whole.{next-line, jobs-refused, arcs-refused, sections-refused, left-over, whole}
 use Rattle.text.proofs.reader.read_text.Statement.{statement}
