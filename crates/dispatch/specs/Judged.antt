@@ -17,7 +17,7 @@ use Rattle.laws.specs.Rows.{all-at, all-says}
 use Rattle.laws.specs.Refusals.{all-none, demand-none, bounds-rows}
 use Rattle.rules.specs.Lists.{plan, timed, state}
 use Rattle.ticks.specs.Lists.{Fit}
-use Rattle.dispatch.specs.Ends.{Bounded}
+use Rattle.states.specs.Ends.{Bounded}
 
 -- A plan and a state of it are within their bounds.
 unfoldable pub inBounds : Plan → State → Bool

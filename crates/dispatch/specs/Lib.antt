@@ -1,5 +1,5 @@
--- Laws for the start and the end of a run, what was judged, the promises and the theorems.
-pub mod Ends
+-- A run and what is left of it, what was judged, the promises and the theorems.
+pub mod Going
 pub mod Judged
 pub mod Promise
 pub mod Theorems

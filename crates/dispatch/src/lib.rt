@@ -1,9 +1,7 @@
 // One tick, a whole run, lateness.
-mod ends;
-mod state;
-
 use choice::Found;
 use rules::Refusal;
+use states::ends;
 ghost use mathlib.Core.Path.{_≡_};
 ghost use mathlib.Core.List.{[]};
 ghost use Prim.Native.Nat.{_+_, _*_, _≤_, _<_};
@@ -12,7 +10,7 @@ ghost use Rattle.rules.specs.Refusals.{stepFault, gives};
 ghost use Rattle.rules.specs.Run.{answered, allEndBy};
 ghost use Rattle.rules.specs.Lists.{plan, timed, state};
 ghost use Rattle.ticks.specs.Lists.{Fit};
-ghost use Rattle.dispatch.specs.Ends.{Bounded};
+ghost use Rattle.states.specs.Ends.{Bounded};
 ghost use Rattle.dispatch.specs.Judged.{inBounds};
 ghost use Rattle.dispatch.specs.Promise.{asFault, Steps, lists, startFault, Starts, Runs, Lateness, asked, latenessIn};
 
@@ -52,7 +50,7 @@ fn in_bounds(
     if !plan::plan_in_bounds(jobs, arcs, sections, times) {
         return false;
     }
-    state::state_in_bounds(jobs, tick, executed, marks, finish)
+    states::state_in_bounds(jobs, tick, executed, marks, finish)
 }
 
 // 12 for a plan or a state out of bounds, then 13 where every job has finished.

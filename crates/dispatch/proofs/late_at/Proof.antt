@@ -1,5 +1,5 @@
 -- Unfinished, or the difference.
-use Rattle.dispatch.specs.Ends.{difference-small}
+use Rattle.states.specs.Ends.{difference-small}
 use mir.Facts.{toZ-ofZ}
 use mir.Val.{SFits}
 use mir.Syntax.{w32}

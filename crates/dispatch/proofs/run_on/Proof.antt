@@ -1,5 +1,5 @@
 -- What is left of the run comes to what the whole run comes to.
-use Rattle.dispatch.specs.Ends.{Going, fit-same, run-begins, run-over, next-ends, next-goes}
+use Rattle.dispatch.specs.Going.{Going, fit-same, run-begins, run-over, next-ends, next-goes}
 use Rattle.rules.specs.Lists.{plan, state}
 use Rattle.ticks.specs.Lists.{Fit}
 use Rattle.rules.specs.Run.{answered}

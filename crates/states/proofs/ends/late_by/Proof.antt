@@ -1,5 +1,5 @@
 -- Small numbers are their own bits, and so is their difference.
-use Rattle.dispatch.specs.Ends.{minus, difference-small}
+use Rattle.states.specs.Ends.{minus, difference-small}
 use lib.IntN.{pos, subℕ, _-ℤ_}
 use mir.Facts.{toZ-ofZ}
 use mir.Val.{toZ}
@@ -9,8 +9,8 @@ use Prim.Native.Nat.{ℕ, _^_, _<_}
 use native.Mathlib.Omega.{arith}
 use borrow.Author.Tests.{lt-ltb}
 use borrow.Author.Needs.{needs}
-use Rattle.dispatch.proofs.ends.late_by.Statement.{statement}
-use Rattle.dispatch.proofs.ends.late_by.Tie as tie
+use Rattle.states.proofs.ends.late_by.Statement.{statement}
+use Rattle.states.proofs.ends.late_by.Tie as tie
 
 -- a small number is its own bits
 bits : (a : ℕ) → a < 2 ^ 31 → toZ w32 a ≡ pos a

@@ -1,4 +1,6 @@
 // Whether a state that is handed in is within bounds.
+pub mod ends;
+
 ghost use mathlib.Core.Path.{_≡_};
 ghost use mathlib.Core.List.{[]};
 ghost use Prim.Native.Nat.{_*_, _%_, _<_};

@@ -2,8 +2,8 @@
 use Rattle.rules.specs.Refusals.{jobStateRight, stateInBounds}
 use native.Mathlib.Omega.{arith}
 use borrow.Author.Tests.{le-leb, lt-leb, eq-eqb, ne-eqb}
-use Rattle.dispatch.proofs.state.state_in_bounds.Statement.{statement}
-use Rattle.dispatch.proofs.state.state_in_bounds.Tie as tie
+use Rattle.states.proofs.state_in_bounds.Statement.{statement}
+use Rattle.states.proofs.state_in_bounds.Tie as tie
 
 returns : tie.Need-returns
 unfolding stateInBounds

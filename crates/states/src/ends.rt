@@ -9,7 +9,7 @@ ghost use Rattle.rules.specs.Rows.{sum, largest};
 ghost use Rattle.rules.specs.Table.{cost, modifiedRelease};
 ghost use Rattle.rules.specs.Run.{allEndBy};
 ghost use Rattle.rules.specs.Lists.{timed};
-ghost use Rattle.dispatch.specs.Ends.{Bounded};
+ghost use Rattle.states.specs.Ends.{Bounded};
 
 // Puts 0 into the first n places.
 pub fn clear(list: &mut [u32], n: usize)

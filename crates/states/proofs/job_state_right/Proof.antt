@@ -2,8 +2,8 @@
 use mathlib.Core.Path.{refl}
 use Rattle.rules.specs.Refusals.{jobStateRight}
 use borrow.Author.Needs.{needs}
-use Rattle.dispatch.proofs.state.job_state_right.Statement.{statement}
-use Rattle.dispatch.proofs.state.job_state_right.Tie as tie
+use Rattle.states.proofs.job_state_right.Statement.{statement}
+use Rattle.states.proofs.job_state_right.Tie as tie
 
 mul-result : tie.Need-mul-result
 mul-result c = search needs

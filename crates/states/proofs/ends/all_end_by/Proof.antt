@@ -2,8 +2,8 @@
 use Rattle.rules.specs.Run.{allEndBy}
 use native.Mathlib.Omega.{arith}
 use borrow.Author.Needs.{needs}
-use Rattle.dispatch.proofs.ends.all_end_by.Statement.{statement}
-use Rattle.dispatch.proofs.ends.all_end_by.Tie as tie
+use Rattle.states.proofs.ends.all_end_by.Statement.{statement}
+use Rattle.states.proofs.ends.all_end_by.Tie as tie
 
 last-release-requires : tie.Need-last-release-requires
 last-release-requires c κs = search needs

@@ -1,12 +1,12 @@
 -- The places passed are 0, the rest is as it was.
-use Rattle.dispatch.specs.Ends.{Cleared, clear-start, clear-more, clear-end}
+use Rattle.states.specs.Ends.{Cleared, clear-start, clear-more, clear-end}
 use mathlib.Core.Path.{_≡_}
 use Prim.Native.Nat.{_-_, _≤_}
 use native.Mathlib.Omega.{arith}
 use lib.ListN.{length}
 use borrow.Author.Needs.{needs}
-use Rattle.dispatch.proofs.ends.clear.Statement.{statement}
-use Rattle.dispatch.proofs.ends.clear.Tie as tie
+use Rattle.states.proofs.ends.clear.Statement.{statement}
+use Rattle.states.proofs.ends.clear.Tie as tie
 
 abbrev Inv-loop : tie.InvT-loop
 Inv-loop list₀ n i₀ list i = (i ≤ n) × (n ≤ length list₀) × Cleared list₀ i list

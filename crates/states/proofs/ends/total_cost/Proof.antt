@@ -9,8 +9,8 @@ use Prim.Native.Nat.{_+_, _*_, _-_, _≤_}
 use native.Mathlib.Omega.{arith}
 use lib.ListN.{getD}
 use borrow.Author.Needs.{needs}
-use Rattle.dispatch.proofs.ends.total_cost.Statement.{statement}
-use Rattle.dispatch.proofs.ends.total_cost.Tie as tie
+use Rattle.states.proofs.ends.total_cost.Statement.{statement}
+use Rattle.states.proofs.ends.total_cost.Tie as tie
 
 abbrev Inv-loop : tie.InvT-loop
 Inv-loop jobs n total₀ j₀ total j = (j ≤ n) × (n ≤ 64) × (total ≤ j * 100000) × (total ≡ sum (cost (timed jobs [] .table)) j)

@@ -10,8 +10,8 @@ use Prim.Native.Nat.{_-_, _≤_}
 use native.Mathlib.Omega.{arith}
 use borrow.Author.Tests.{not-true, not-false}
 use borrow.Author.Needs.{needs}
-use Rattle.dispatch.proofs.state.all_states_right.Statement.{statement}
-use Rattle.dispatch.proofs.state.all_states_right.Tie as tie
+use Rattle.states.proofs.all_states_right.Statement.{statement}
+use Rattle.states.proofs.all_states_right.Tie as tie
 
 abbrev Inv-loop : tie.InvT-loop
 Inv-loop jobs executed marks finish n j₀ j = (j ≤ n) × (all (jobStateRight (timed jobs []) (state 0 executed marks finish)) j ≡ true)

@@ -1,5 +1,5 @@
 -- The largest release of the jobs passed.
-use Rattle.dispatch.specs.Ends.{largest-more}
+use Rattle.states.specs.Ends.{largest-more}
 use Rattle.rules.specs.Lists.{timed}
 use Rattle.rules.specs.Table.{modifiedRelease}
 use Rattle.rules.specs.Rows.{largest}
@@ -10,8 +10,8 @@ use mathlib.Core.Logic.{⊎-elim}
 use Prim.Native.Nat.{_-_, _≤_}
 use native.Mathlib.Omega.{arith}
 use borrow.Author.Needs.{needs}
-use Rattle.dispatch.proofs.ends.last_release.Statement.{statement}
-use Rattle.dispatch.proofs.ends.last_release.Tie as tie
+use Rattle.states.proofs.ends.last_release.Statement.{statement}
+use Rattle.states.proofs.ends.last_release.Tie as tie
 
 abbrev Inv-loop : tie.InvT-loop
 Inv-loop times n last₀ j₀ last j = (j ≤ n) × (last ≤ 1000000) × (last ≡ largest (λ k. true) (modifiedRelease (timed [] times)) 0 j)

@@ -1,0 +1,2 @@
+-- Laws for the start and the end of a run.
+pub mod Ends
