@@ -1,3 +1,2 @@
 -- What the C interface promises: the answers of the entries, as C has them.
-pub mod Answers
 pub mod Promise

@@ -14,14 +14,14 @@ use Rattle.rules.specs.Lists.{state}
 use Rattle.dispatch.specs.Promise.{Lists, Steps, Starts, Runs, Lateness}
 use Rattle.dispatch.specs.Theorems.{step-settled, start-settled, run-settled, lateness-settled}
 use Rattle.answer.specs.Promise.{Prints, answer-settled}
-use Rattle.zubrelets_c.specs.Answers.{countsOf, lengthOf, countOf, tickOf, steppedOf, lateOf, verdictOf}
-use Rattle.zubrelets_c.specs.declared.answers.ZubCounts.{ZubCounts}
-use Rattle.zubrelets_c.specs.declared.answers.ZubLength.{ZubLength}
-use Rattle.zubrelets_c.specs.declared.answers.ZubCount.{ZubCount}
-use Rattle.zubrelets_c.specs.declared.answers.ZubTick.{ZubTick}
-use Rattle.zubrelets_c.specs.declared.answers.ZubStepped.{ZubStepped}
-use Rattle.zubrelets_c.specs.declared.answers.ZubLate.{ZubLate}
-use Rattle.zubrelets_c.specs.declared.answers.ZubVerdict.{ZubVerdict}
+use Rattle.c_answers.specs.Answers.{countsOf, lengthOf, countOf, tickOf, steppedOf, lateOf, verdictOf}
+use Rattle.c_answers.specs.declared.ZubCounts.{ZubCounts}
+use Rattle.c_answers.specs.declared.ZubLength.{ZubLength}
+use Rattle.c_answers.specs.declared.ZubCount.{ZubCount}
+use Rattle.c_answers.specs.declared.ZubTick.{ZubTick}
+use Rattle.c_answers.specs.declared.ZubStepped.{ZubStepped}
+use Rattle.c_answers.specs.declared.ZubLate.{ZubLate}
+use Rattle.c_answers.specs.declared.ZubVerdict.{ZubVerdict}
 
 -- An answer in C: the form in C of an answer that the entry's own promise allows.
 abbrev pub InC : {A R : Type 0} → (A → Type 0) → (A → R) → R → Type 0

@@ -1,20 +1,18 @@
 // The entries for C. A list goes in as a pointer and a length; include/zubrelets.h says for each what it takes and writes.
-mod answers;
-
-use answers::ZubCount;
-use answers::ZubCounts;
-use answers::ZubLate;
-use answers::ZubLength;
-use answers::ZubStepped;
-use answers::ZubTick;
-use answers::ZubVerdict;
+use c_answers::ZubCount;
+use c_answers::ZubCounts;
+use c_answers::ZubLate;
+use c_answers::ZubLength;
+use c_answers::ZubStepped;
+use c_answers::ZubTick;
+use c_answers::ZubVerdict;
 ghost use Rattle.rules.specs.Lists.{table, plan, state};
 ghost use Rattle.text.specs.Promises.{Reads, Writes};
 ghost use Rattle.plan.specs.Promise.{Plans};
 ghost use Rattle.density.specs.Promise as density;
 ghost use Rattle.dispatch.specs.Promise.{Steps, Starts, Runs, Lateness, lists};
 ghost use Rattle.answer.specs.Promise.{Prints};
-ghost use Rattle.zubrelets_c.specs.Answers.{countsOf, lengthOf, countOf, tickOf, steppedOf, lateOf, verdictOf};
+ghost use Rattle.c_answers.specs.Answers.{countsOf, lengthOf, countOf, tickOf, steppedOf, lateOf, verdictOf};
 ghost use Rattle.zubrelets_c.specs.Promise.{InC};
 
 // Reads a table's text into lent lists.
@@ -28,7 +26,7 @@ pub extern "C" fn zub_read(
     ensures { λ r. ⌜ InC (Reads (now (text .entry)) (now (jobs .entry)) (now (arcs .entry)) (now (sections .entry))
         (now (jobs .exit)) (now (arcs .exit)) (now (sections .exit))) countsOf r ⌝ }
 {
-    answers::counts_of(text::read(text, jobs, arcs, sections))
+    c_answers::counts_of(text::read(text, jobs, arcs, sections))
 }
 
 // Writes a table's text into lent bytes.
@@ -41,7 +39,7 @@ pub extern "C" fn zub_write(
 ) -> ZubLength
     ensures { λ r. ⌜ InC (Writes (now (jobs .entry)) (now (arcs .entry)) (now (sections .entry)) (now (out .entry)) (now (out .exit))) lengthOf r ⌝ }
 {
-    answers::length_of(text::write(jobs, arcs, sections, out))
+    c_answers::length_of(text::write(jobs, arcs, sections, out))
 }
 
 // Checks a table and writes its modified times.
@@ -54,7 +52,7 @@ pub extern "C" fn zub_plan(
 ) -> ZubCount
     ensures { λ r. ⌜ InC (λ a. Plans (table (now (jobs .entry)) (now (arcs .entry)) (now (sections .entry))) (now (times .entry)) a (now (times .exit))) countOf r ⌝ }
 {
-    answers::count_of(plan::plan(jobs, arcs, sections, times))
+    c_answers::count_of(plan::plan(jobs, arcs, sections, times))
 }
 
 // The density test of a plan.
@@ -67,7 +65,7 @@ pub extern "C" fn zub_density(
 ) -> ZubVerdict
     ensures { λ r. ⌜ InC (density.Answers (plan (now (jobs .entry)) (now (arcs .entry)) (now (sections .entry)) (now (times .entry)))) verdictOf r ⌝ }
 {
-    answers::verdict_of(density::density(jobs, arcs, sections, times))
+    c_answers::verdict_of(density::density(jobs, arcs, sections, times))
 }
 
 // The state at tick 0 of a plan, into lent lists.
@@ -85,7 +83,7 @@ pub extern "C" fn zub_start(
         (lists (now (executed .entry)) (now (marks .entry)) (now (finish .entry))) a
         (lists (now (executed .exit)) (now (marks .exit)) (now (finish .exit)))) tickOf r ⌝ }
 {
-    answers::tick_of(dispatch::start(jobs, arcs, sections, times, executed, marks, finish))
+    c_answers::tick_of(dispatch::start(jobs, arcs, sections, times, executed, marks, finish))
 }
 
 // One tick of a plan from a state, with its report.
@@ -105,7 +103,7 @@ pub extern "C" fn zub_step(
         (state tick (now (executed .entry)) (now (marks .entry)) (now (finish .entry))) silent a
         (state (a .tick) (now (executed .exit)) (now (marks .exit)) (now (finish .exit)))) steppedOf r ⌝ }
 {
-    answers::stepped_of(dispatch::step(
+    c_answers::stepped_of(dispatch::step(
         jobs,
         arcs,
         sections,
@@ -133,7 +131,7 @@ pub extern "C" fn zub_run(
         (lists (now (executed .entry)) (now (marks .entry)) (now (finish .entry))) a
         (lists (now (executed .exit)) (now (marks .exit)) (now (finish .exit)))) tickOf r ⌝ }
 {
-    answers::tick_of(dispatch::run(jobs, arcs, sections, times, executed, marks, finish))
+    c_answers::tick_of(dispatch::run(jobs, arcs, sections, times, executed, marks, finish))
 }
 
 // The lateness of a job of a state.
@@ -152,7 +150,7 @@ pub extern "C" fn zub_lateness(
     ensures { λ r. ⌜ InC (Lateness (plan (now (jobs .entry)) (now (arcs .entry)) (now (sections .entry)) (now (times .entry)))
         (state tick (now (executed .entry)) (now (marks .entry)) (now (finish .entry))) job) lateOf r ⌝ }
 {
-    answers::late_of(dispatch::lateness(
+    c_answers::late_of(dispatch::lateness(
         jobs,
         arcs,
         sections,
@@ -170,5 +168,5 @@ pub extern "C" fn zub_lateness(
 pub extern "C" fn zub_answer(text: &[u8], out: &mut [u8]) -> ZubLength
     ensures { λ r. ⌜ InC (Prints (now (text .entry)) (now (out .entry)) (now (out .exit))) lengthOf r ⌝ }
 {
-    answers::length_of(answer::answer(text, out))
+    c_answers::length_of(answer::answer(text, out))
 }

@@ -1,8 +1,8 @@
 -- Each case of a verdict, as C has it.
 use mathlib.Core.Path.{refl}
 use borrow.Author.Needs.{needs}
-use Rattle.zubrelets_c.proofs.answers.verdict_of.Statement.{statement}
-use Rattle.zubrelets_c.proofs.answers.verdict_of.Tie as tie
+use Rattle.c_answers.proofs.verdict_of.Statement.{statement}
+use Rattle.c_answers.proofs.verdict_of.Tie as tie
 
 enum-known-verdict : tie.Need-enum-known-verdict
 enum-known-verdict c = search needs

@@ -4,8 +4,8 @@ use mir.Facts.{toZ-ofZ}
 use mir.Val.{SFits}
 use mir.Syntax.{w32}
 use borrow.Author.Needs.{needs}
-use Rattle.zubrelets_c.proofs.answers.late_of.Statement.{statement}
-use Rattle.zubrelets_c.proofs.answers.late_of.Tie as tie
+use Rattle.c_answers.proofs.late_of.Statement.{statement}
+use Rattle.c_answers.proofs.late_of.Tie as tie
 
 enum-known-late : tie.Need-enum-known-late
 enum-known-late c = search needs

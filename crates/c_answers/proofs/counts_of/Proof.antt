@@ -1,8 +1,8 @@
 -- Each case of a reading, as C has it.
 use mathlib.Core.Path.{refl}
 use borrow.Author.Needs.{needs}
-use Rattle.zubrelets_c.proofs.answers.counts_of.Statement.{statement}
-use Rattle.zubrelets_c.proofs.answers.counts_of.Tie as tie
+use Rattle.c_answers.proofs.counts_of.Statement.{statement}
+use Rattle.c_answers.proofs.counts_of.Tie as tie
 
 enum-known-reading : tie.Need-enum-known-reading
 enum-known-reading c = search needs

@@ -9,7 +9,7 @@ use plan::Planned;
 use text::Reading;
 use text::Writing;
 ghost use mathlib.Core.Path.{_≡_};
-ghost use Rattle.zubrelets_c.specs.Answers.{countsOf, lengthOf, countOf, tickOf, steppedOf, lateOf, verdictOf};
+ghost use Rattle.c_answers.specs.Answers.{countsOf, lengthOf, countOf, tickOf, steppedOf, lateOf, verdictOf};
 
 // How many jobs, arcs and sections were read.
 #[repr(C)]

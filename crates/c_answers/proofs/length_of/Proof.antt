@@ -1,8 +1,8 @@
 -- Each case of a writing, as C has it.
 use mathlib.Core.Path.{refl}
 use borrow.Author.Needs.{needs}
-use Rattle.zubrelets_c.proofs.answers.length_of.Statement.{statement}
-use Rattle.zubrelets_c.proofs.answers.length_of.Tie as tie
+use Rattle.c_answers.proofs.length_of.Statement.{statement}
+use Rattle.c_answers.proofs.length_of.Tie as tie
 
 enum-known-writing : tie.Need-enum-known-writing
 enum-known-writing c = search needs

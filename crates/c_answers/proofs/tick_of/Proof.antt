@@ -1,8 +1,8 @@
 -- Each case of what is reached, as C has it.
 use mathlib.Core.Path.{refl}
 use borrow.Author.Needs.{needs}
-use Rattle.zubrelets_c.proofs.answers.tick_of.Statement.{statement}
-use Rattle.zubrelets_c.proofs.answers.tick_of.Tie as tie
+use Rattle.c_answers.proofs.tick_of.Statement.{statement}
+use Rattle.c_answers.proofs.tick_of.Tie as tie
 
 enum-known-reached : tie.Need-enum-known-reached
 enum-known-reached c = search needs

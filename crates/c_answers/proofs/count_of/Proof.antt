@@ -1,8 +1,8 @@
 -- Each case of a check, as C has it.
 use mathlib.Core.Path.{refl}
 use borrow.Author.Needs.{needs}
-use Rattle.zubrelets_c.proofs.answers.count_of.Statement.{statement}
-use Rattle.zubrelets_c.proofs.answers.count_of.Tie as tie
+use Rattle.c_answers.proofs.count_of.Statement.{statement}
+use Rattle.c_answers.proofs.count_of.Tie as tie
 
 enum-known-planned : tie.Need-enum-known-planned
 enum-known-planned c = search needs

@@ -17,13 +17,13 @@ use Rattle.dispatch.specs.declared.Late.{Late}
 use Rattle.dispatch.specs.declared.Late.the-variants.{By, Unfinished}
 use Rattle.density.specs.declared.Verdict.{Verdict}
 use Rattle.density.specs.declared.Verdict.the-variants.{Yes, No}
-use Rattle.zubrelets_c.specs.declared.answers.ZubCounts.{ZubCounts}
-use Rattle.zubrelets_c.specs.declared.answers.ZubLength.{ZubLength}
-use Rattle.zubrelets_c.specs.declared.answers.ZubCount.{ZubCount}
-use Rattle.zubrelets_c.specs.declared.answers.ZubTick.{ZubTick}
-use Rattle.zubrelets_c.specs.declared.answers.ZubStepped.{ZubStepped}
-use Rattle.zubrelets_c.specs.declared.answers.ZubLate.{ZubLate}
-use Rattle.zubrelets_c.specs.declared.answers.ZubVerdict.{ZubVerdict}
+use Rattle.c_answers.specs.declared.ZubCounts.{ZubCounts}
+use Rattle.c_answers.specs.declared.ZubLength.{ZubLength}
+use Rattle.c_answers.specs.declared.ZubCount.{ZubCount}
+use Rattle.c_answers.specs.declared.ZubTick.{ZubTick}
+use Rattle.c_answers.specs.declared.ZubStepped.{ZubStepped}
+use Rattle.c_answers.specs.declared.ZubLate.{ZubLate}
+use Rattle.c_answers.specs.declared.ZubVerdict.{ZubVerdict}
 
 -- Of `zub_read`.
 abbrev pub countsOf : Reading → ZubCounts

@@ -1,8 +1,8 @@
 -- Each case of a step, as C has it.
 use mathlib.Core.Path.{refl}
 use borrow.Author.Needs.{needs}
-use Rattle.zubrelets_c.proofs.answers.stepped_of.Statement.{statement}
-use Rattle.zubrelets_c.proofs.answers.stepped_of.Tie as tie
+use Rattle.c_answers.proofs.stepped_of.Statement.{statement}
+use Rattle.c_answers.proofs.stepped_of.Tie as tie
 
 enum-known-ran : tie.Need-enum-known-ran
 enum-known-ran c = search needs

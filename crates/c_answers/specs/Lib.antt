@@ -1,0 +1,2 @@
+-- The answers in C's form.
+pub mod Answers
