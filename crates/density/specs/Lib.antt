@@ -1,4 +1,4 @@
--- The density test: divisors and multiples, the order of places, the sums, the first failing job, the promise of the entry.
+-- The density test: divisors and multiples, places as a sort gives them, the first failing job, the promise of the entry.
 pub mod Divides
 pub mod Multiple
 pub mod Bounds

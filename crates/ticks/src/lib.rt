@@ -1,5 +1,4 @@
-// What a tick writes: who ran, how far the job is, and its mark and finish where it ends. And whether all
-// have finished.
+// What a tick writes: how far the job is that ran, and its mark and finish where it ends. And whether all have finished.
 use choice::Found;
 ghost use mathlib.Core.Path.{_≡_};
 ghost use mathlib.Core.Bool.{_||_};
