@@ -1,3 +1,4 @@
+#![tactic(auto)]
 // The whole program as one function: a table's text in, the lines of its run out.
 ghost use Rattle.std.specs.Prelude.{◌≡◌, true, ◌/◌, ◌≤◌, length};
 ghost use Rattle.rules.specs.Refusals.{check, plan_in_bounds};

@@ -1,3 +1,4 @@
+#![tactic(auto)]
 // The answers of the C interface: first the refusal's number, 0 for none, and its place; then the entry's values, which are 0 where
 // it is refused.
 ghost use Rattle.std.specs.Prelude.{◌≡◌};

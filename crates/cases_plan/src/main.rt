@@ -1,3 +1,4 @@
+#![tactic(auto)]
 // Prints what `plan`, `plan_in_bounds` and `density` answer for the cases on standard input: numbers in a fixed order,
 // parted by whatever is no digit. For each of the three in turn there is a count of cases, and each case: its own number,
 // the lists of jobs, arcs and sections, and for `plan` the length of the lent list, for the other two the list of times. A

@@ -1,3 +1,4 @@
+#![tactic(auto)]
 // Reads the text of each file that its arguments name and prints, a line each, what `read` says; what was read is written
 // again, and the bytes are compared. Then the writer's refusals.
 use libc::STDOUT_FILENO;

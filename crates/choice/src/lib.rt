@@ -1,3 +1,4 @@
+#![tactic(auto)]
 // Who runs in a tick: one pass over the jobs for the first in the order, one over the sections for what is held, and one for
 // the ceilings.
 ghost use Rattle.std.specs.Prelude.{◌≡◌, [], not, ◌&&◌, ◌||◌, ◌+◌, ◌*◌, ◌/◌, ◌-◌, ◌<◌, ltb, leb, eqb, length, get_or};

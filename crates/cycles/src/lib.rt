@@ -1,3 +1,4 @@
+#![tactic(auto)]
 // Rule 9, after 2 to 8: cycles, by words of 64 bits. The word of a job holds the jobs that a chain of arcs leads to.
 ghost use Rattle.std.specs.Prelude.{◌≡◌, [], ◌<◌, ◌≤◌, length};
 ghost use Rattle.rules.specs.Table.{job_count};

@@ -1,3 +1,4 @@
+#![tactic(auto)]
 // The density test of a plan that is handed in.
 mod failing;
 mod multiple;

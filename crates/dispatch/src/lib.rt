@@ -1,3 +1,4 @@
+#![tactic(auto)]
 // One tick, a whole run, lateness.
 ghost use Rattle.std.specs.Prelude.{◌≡◌, [], ◌+◌, ◌*◌, ◌≤◌, ◌<◌, length, get_or};
 ghost use Rattle.rules.specs.Refusals.{step_fault, gives};

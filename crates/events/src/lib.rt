@@ -1,3 +1,4 @@
+#![tactic(auto)]
 // From one event to the next: while no modified release is reached, and the running job neither passes the end of one of its
 // sections nor finishes, the same job runs.
 ghost use Rattle.std.specs.Prelude.{◌≡◌, cond, ◌&&◌, [], ◌+◌, ◌*◌, ◌/◌, ◌<◌, ◌≤◌, min, ltb, eqb, length, get_or};

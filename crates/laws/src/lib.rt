@@ -1,1 +1,2 @@
+#![tactic(auto)]
 // What follows from the rules, for proofs of code and for theorems: specs only.

@@ -1,3 +1,4 @@
+#![tactic(auto)]
 // Modified times, by rounds over the arcs: each round reads the times of the round before. Releases go forward along the
 // arcs and deadlines back. A deadline is worked on as its tail, how long before 1,000,000 it lies: then both ways take the
 // largest, a deadline less a cost is a tail and that cost, and nothing falls below zero.

@@ -1,3 +1,4 @@
+#![tactic(auto)]
 // The lines of an answer, written to a page. Each function answers the place after what it has written.
 ghost use Rattle.std.specs.Prelude.{[], ◌∷◌, ◌++◌, ◌+◌, ◌*◌, ◌/◌, ◌<◌, ◌≤◌, length};
 ghost use Rattle.std.proofs.Math.IntN.{sub_ℕ};

@@ -1,3 +1,4 @@
+#![tactic(auto)]
 // The three parts of a text: each has a count's line, and then its rows.
 ghost use Rattle.std.specs.Prelude.{◌≡◌, ◌+◌, ◌*◌, ◌%◌, ◌<◌, ◌≤◌, leb};
 ghost use Rattle.rules.specs.Refusals.{fault, fault_of};

@@ -1,3 +1,4 @@
+#![tactic(auto)]
 // The table check with the modified times, and the judgement of a plan that is handed in.
 ghost use Rattle.std.specs.Prelude.{◌≡◌, [], ◌+◌, ◌*◌, ◌<◌, ◌≤◌, length};
 ghost use Rattle.rules.specs.Rows.{all};

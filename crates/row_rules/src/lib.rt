@@ -1,3 +1,4 @@
+#![tactic(auto)]
 // Whether one row breaks its rule, 5 to 8.
 ghost use Rattle.std.specs.Prelude.{◌≡◌, [], ◌&&◌, ◌+◌, ◌*◌, ◌<◌, length, ltb, leb};
 ghost use Rattle.rules.specs.Refusals.{job_out, arc_out, section_out, clash, clashes};

@@ -1,3 +1,4 @@
+#![tactic(auto)]
 // Rules 2 to 8: counts and lengths, what stands in a row, sections that clash.
 ghost use Rattle.std.specs.Prelude.{◌≡◌, [], ◌+◌, ◌<◌, ◌≤◌};
 ghost use Rattle.rules.specs.Refusals.{fault, fault_of, first_of, accepted, count_faults, clashes};

@@ -1,3 +1,4 @@
+#![tactic(auto)]
 // The types that every crate shares. What 01 says stands as definitions in specs/.
 ghost use Rattle.std.specs.Prelude.{◌≡◌, ◌-◌, ltb, eqb};
 ghost use Rattle.rules.specs.Refusals.{number_of, place_of};

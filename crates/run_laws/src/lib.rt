@@ -1,1 +1,2 @@
+#![tactic(auto)]
 // The theorems of demand 3 about the run: specs only.

@@ -1,3 +1,4 @@
+#![tactic(auto)]
 // Whether a state that is handed in is within bounds.
 pub mod ends;
 

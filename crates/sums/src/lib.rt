@@ -1,3 +1,4 @@
+#![tactic(auto)]
 // The sums of the density test: what the jobs up to a place add, and b, the longest section that can hold them up.
 pub mod order;
 

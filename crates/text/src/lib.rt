@@ -1,3 +1,4 @@
+#![tactic(auto)]
 // A table's text: read into three lent lists, and written into lent bytes.
 ghost use Rattle.text.specs.Promises.{Reads, Writes};
 

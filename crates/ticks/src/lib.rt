@@ -1,3 +1,4 @@
+#![tactic(auto)]
 // What a tick writes: how far the job is that ran, and its mark and finish where it ends. And whether all have finished.
 ghost use Rattle.std.specs.Prelude.{◌≡◌, ◌||◌, [], ◌+◌, ◌*◌, ◌/◌, ◌<◌, ◌≤◌, length, get_or};
 ghost use Rattle.rules.specs.Refusals.{all_finished};

@@ -1,3 +1,4 @@
+#![tactic(auto)]
 // Reads a table's text from standard input, runs the table to its end with every report answered, and prints what it came to.
 use libc::STDOUT_FILENO;
 use text::Writing;

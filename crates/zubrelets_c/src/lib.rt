@@ -1,3 +1,4 @@
+#![tactic(auto)]
 // The entries for C. A list goes in as a pointer and a length; include/zubrelets.h says for each what it takes and writes.
 ghost use Rattle.rules.specs.Lists.{table, plan, state};
 ghost use Rattle.text.specs.Promises.{Reads, Writes};

@@ -1,3 +1,4 @@
+#![tactic(auto)]
 // Reads a table's text from standard input and prints the answer of its density test: `density=yes`, or `density=no` and
 // the lowest failing place, or a refusal's two lines.
 use density::Verdict;
