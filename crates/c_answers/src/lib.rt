@@ -11,7 +11,7 @@ use text::{Reading, Writing};
 
 // How many jobs, arcs and sections were read.
 #[repr(C)]
-#[derive(Drop)]
+#[derive(Clone, Copy)]
 pub struct ZubCounts {
     pub refusal: u32,
     pub place: u32,
@@ -22,7 +22,7 @@ pub struct ZubCounts {
 
 // How many bytes were written.
 #[repr(C)]
-#[derive(Drop)]
+#[derive(Clone, Copy)]
 pub struct ZubLength {
     pub refusal: u32,
     pub place: u32,
@@ -31,7 +31,7 @@ pub struct ZubLength {
 
 // How many numbers were written.
 #[repr(C)]
-#[derive(Drop)]
+#[derive(Clone, Copy)]
 pub struct ZubCount {
     pub refusal: u32,
     pub place: u32,
@@ -40,7 +40,7 @@ pub struct ZubCount {
 
 // The tick of the state that was written.
 #[repr(C)]
-#[derive(Drop)]
+#[derive(Clone, Copy)]
 pub struct ZubTick {
     pub refusal: u32,
     pub place: u32,
@@ -49,7 +49,7 @@ pub struct ZubTick {
 
 // The tick after a step, 1 where a job ran, and which; the given tick where the step is refused.
 #[repr(C)]
-#[derive(Drop)]
+#[derive(Clone, Copy)]
 pub struct ZubStepped {
     pub refusal: u32,
     pub place: u32,
@@ -60,7 +60,7 @@ pub struct ZubStepped {
 
 // 1 where the job has finished, and its lateness.
 #[repr(C)]
-#[derive(Drop)]
+#[derive(Clone, Copy)]
 pub struct ZubLate {
     pub refusal: u32,
     pub place: u32,
@@ -70,7 +70,7 @@ pub struct ZubLate {
 
 // 1 for yes; with a no the lowest failing place, from 1.
 #[repr(C)]
-#[derive(Drop)]
+#[derive(Clone, Copy)]
 pub struct ZubVerdict {
     pub refusal: u32,
     pub place: u32,

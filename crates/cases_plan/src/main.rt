@@ -13,7 +13,7 @@ use input::Filled;
 use plan::Planned;
 
 // Which entry a case is for.
-#[derive(Drop)]
+#[derive(Clone, Copy)]
 enum Asked {
     Plan,
     Bounds,

@@ -11,7 +11,7 @@ ghost use Rattle.choice.specs.Lists.{as_option, Within, row_below, candidate, Si
 use rules::{Instant, Span};
 
 // A job that was looked for.
-#[derive(Drop)]
+#[derive(Clone, Copy)]
 pub enum Found {
     At(usize),
     Nothing,

@@ -9,7 +9,7 @@ ghost use Rattle.density.specs.Failing.{Within, as_option};
 use sums::order::sorts_before;
 
 // The failing job that stands first so far.
-#[derive(Drop)]
+#[derive(Clone, Copy)]
 pub enum Found {
     Nothing,
     Job(usize),

@@ -16,7 +16,7 @@ use crate::multiple::Common;
 use rules::Refusal;
 
 // What the test says: it is refused, or yes, or no with the lowest failing place, from 1.
-#[derive(Drop)]
+#[derive(Clone, Copy)]
 pub enum Verdict {
     Refused(Refusal),
     Yes,

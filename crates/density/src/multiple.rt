@@ -10,7 +10,7 @@ use sums::order::span_of;
 const MOST: u32 = 1_000_000_000;
 
 // A common multiple, or that it exceeds its limit.
-#[derive(Drop)]
+#[derive(Clone, Copy)]
 pub enum Common {
     Of(u32),
     Over,

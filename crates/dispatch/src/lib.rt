@@ -14,7 +14,7 @@ use rules::Refusal;
 use states::ends;
 
 // What a step did: a job ran, the processor was idle, or the step was refused.
-#[derive(Drop)]
+#[derive(Clone, Copy)]
 pub enum Ran {
     Job(u32),
     Idle,
@@ -22,14 +22,14 @@ pub enum Ran {
 }
 
 // The tick after a step, which is the given one where the step is refused, and what it did.
-#[derive(Drop)]
+#[derive(Clone, Copy)]
 pub struct Stepped {
     pub tick: u32,
     pub ran: Ran,
 }
 
 // Whether a step can be taken.
-#[derive(Drop)]
+#[derive(Clone, Copy)]
 enum Judgement {
     Ready,
     Wrong(Refusal),
@@ -120,7 +120,7 @@ pub fn step(
 }
 
 // The state that the lent lists now hold, by its tick, or why they were not written.
-#[derive(Drop)]
+#[derive(Clone, Copy)]
 pub enum Reached {
     Tick(u32),
     Refused(Refusal),
@@ -249,7 +249,7 @@ pub fn run(
 }
 
 // How late a job ended: by so many ticks, negative when early; or that it has not finished.
-#[derive(Drop)]
+#[derive(Clone, Copy)]
 pub enum Late {
     By(i32),
     Unfinished,

@@ -6,14 +6,14 @@ ghost use Rattle.lines.specs.Leaves.{Matched, Counting, Took, LineEnds};
 use crate::keys;
 
 // How far bytes match: all of them, so many, or only so many.
-#[derive(Drop)]
+#[derive(Clone, Copy)]
 pub enum Match {
     Whole(usize),
     Stopped(usize),
 }
 
 // A value and the place after it, or the place of the first byte with which nothing allowed goes on.
-#[derive(Drop)]
+#[derive(Clone, Copy)]
 pub enum Found {
     Value { value: u32, end: usize },
     Stopped(usize),
@@ -70,7 +70,7 @@ fn least(a: usize, b: usize) -> usize
 }
 
 // Digits that are read: the number they stand for, and the place after them.
-#[derive(Drop)]
+#[derive(Clone, Copy)]
 pub struct Front {
     pub value: u64,
     pub end: usize,

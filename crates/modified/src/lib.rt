@@ -13,14 +13,14 @@ use rows::Judged;
 use rules::Refusal;
 
 // Releases go forward along the arcs, deadlines back.
-#[derive(Drop)]
+#[derive(Clone, Copy)]
 pub enum Way {
     Forward,
     Back,
 }
 
 // The jobs at the ends of an arc, as a way goes.
-#[derive(Drop)]
+#[derive(Clone, Copy)]
 struct Ends {
     source: usize,
     target: usize,

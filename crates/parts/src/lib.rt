@@ -9,7 +9,7 @@ use rules::Refusal;
 
 pub mod writer;
 
-#[derive(Drop)]
+#[derive(Clone, Copy)]
 pub enum Part {
     Jobs,
     Arcs,

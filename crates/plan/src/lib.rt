@@ -64,7 +64,7 @@ pub fn plan_in_bounds(jobs: &[u32], arcs: &[u32], sections: &[u32], times: &[u32
 }
 
 // What `plan` answers: a refusal, or how many numbers stand at the front of the lent list, a pair for each job.
-#[derive(Drop)]
+#[derive(Clone, Copy)]
 pub enum Planned {
     Refused(Refusal),
     Times(u32),

@@ -48,7 +48,7 @@ pub fn arc_out(jobs: &[u32], arcs: &[u32], a: usize) -> bool
 }
 
 // The ticks of its job that a section spans, the last one not among them.
-#[derive(Drop)]
+#[derive(Clone, Copy)]
 struct Range {
     from: u32,
     to: u32,

@@ -11,14 +11,14 @@ use row_rules::{arc_out, clashes, job_out, section_out};
 use rules::Refusal;
 
 // What the rules judged so far come to.
-#[derive(Drop)]
+#[derive(Clone, Copy)]
 pub enum Judged {
     Right,
     Wrong(Refusal),
 }
 
 // The rules that are judged row by row, with the lowest row as the place.
-#[derive(Drop)]
+#[derive(Clone, Copy)]
 enum Rule {
     Job,
     Arc,

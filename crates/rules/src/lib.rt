@@ -4,11 +4,11 @@ ghost use Rattle.std.specs.Prelude.{◌≡◌, ◌-◌, ltb, eqb};
 ghost use Rattle.rules.specs.Refusals.{number_of, place_of};
 
 // A point in time: a release, a deadline, a tick. Compared only with instants.
-#[derive(Drop)]
+#[derive(Clone, Copy)]
 pub struct Instant(pub u32);
 
 // A length of time: a relative deadline. Compared only with spans.
-#[derive(Drop)]
+#[derive(Clone, Copy)]
 pub struct Span(pub u32);
 
 impl Instant {
@@ -54,7 +54,7 @@ impl Span {
 }
 
 // Why an entry does not do its work, with the place where 01 gives one.
-#[derive(Drop)]
+#[derive(Clone, Copy)]
 pub enum Refusal {
     Text(u32),
     Jobs(u32),

@@ -8,14 +8,14 @@ use rules::Refusal;
 mod reader;
 
 // What `read` answers: why the text is refused, or how many jobs, arcs and sections it has.
-#[derive(Drop)]
+#[derive(Clone, Copy)]
 pub enum Reading {
     Refused(Refusal),
     Counts { jobs: u32, arcs: u32, sections: u32 },
 }
 
 // What `write` answers: why nothing is written, or how many bytes are.
-#[derive(Drop)]
+#[derive(Clone, Copy)]
 pub enum Writing {
     Refused(Refusal),
     Bytes(usize),

@@ -12,7 +12,7 @@ use parts::Part;
 use rules::Refusal;
 
 // What reading a part comes to: how many rows it has, the place after it and the number of the line there; or a refusal.
-#[derive(Drop)]
+#[derive(Clone, Copy)]
 pub enum PartRead {
     Rows(u32, usize, u32),
     Refused(Refusal),

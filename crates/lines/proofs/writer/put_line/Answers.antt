@@ -1,0 +1,29 @@
+-- `lines::writer::put_line` meets its contract: three pieces, one after the other.
+use Rattle.std.proofs.Common.{arith, length, length-append, ◌<◌}
+use Rattle.laws.specs.Digits.{line-bytes, line-length}
+use Rattle.lines.specs.Pieces.{two, one}
+use Rattle.rules.specs.Text.{key}
+use Rattle.lines.proofs.writer.put_line.Goals as goal
+
+pub put_key-equals-requires : goal.put_key-equals-requires
+put_key-equals-requires c = let a = c.args in
+    (omega arith, omega (arith, line-length (key a.k) a.value))
+
+pub put_number-end-requires : goal.put_number-end-requires
+put_number-end-requires c = let a = c.args in
+    omega (arith, line-length (key a.k) a.value)
+
+pub bounds-out-end : goal.bounds-out-end
+bounds-out-end c = (let ended : c.put_number-end.result < length c.put_number-end.new.out = let a = c.args in omega (arith, line-length (key a.k) a.value) in ended)
+
+pub overflow_add-result : goal.overflow_add-result
+overflow_add-result c = omega (arith, (let ended : c.put_number-end.result < length c.put_number-end.new.out = let a = c.args in omega (arith, line-length (key a.k) a.value) in ended))
+
+pub returns : goal.returns
+returns c = let a = c.args in
+    let l = line-length (key a.k) a.value in
+    rw (line-bytes (key a.k) a.value)
+    (two
+    (two c.put_key-equals.ensures c.put_number-end.ensures (omega arith))
+    (one _ _ _ ((let ended : c.put_number-end.result < length c.put_number-end.new.out = let a = c.args in omega (arith, line-length (key a.k) a.value) in ended)))
+    (rw length-append (omega arith)))

@@ -1,0 +1,8 @@
+-- `parts::writer::text_length` meets its contract: a text is its three parts.
+use Rattle.std.proofs.Common.{arith}
+use Rattle.parts.specs.Rows.{text_length}
+use Rattle.parts.proofs.writer.text_length.Goals as goal
+
+pub returns : goal.returns
+returns c = let a = c.args in
+    omega (arith, text_length a.jobs.now a.arcs.now a.sections.now)
