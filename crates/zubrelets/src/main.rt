@@ -1,24 +1,20 @@
 #![tactic(auto)]
 // Reads a table's text from standard input, runs the table to its end with every report answered, and prints what it came to.
-use libc::STDOUT_FILENO;
+use std::io;
+use std::io::Write;
 use text::Writing;
-
-// Words to standard output.
-fn print(words: &[u8]) {
-    io::write_all(STDOUT_FILENO, words);
-}
 
 // The buffer has 65,536 bytes, and the longest right text has 20,830. A text that does not fit is therefore wrong, and its
 // first wrong line starts within the first 20,831 bytes, as the right lines before it begin some right text. That line ends
 // within the buffer, or it is longer than any line of the right form and as wrong cut off as whole. So the bytes that were
 // read get the answer of the whole text.
-fn main() {
-    let mut text = io::large_buffer();
-    let n = io::read_full(0, &mut text);
+fn main(rt: HostRuntime) -> io::Result<()> {
+    let mut text = [0u8; 65536];
+    let n = reading::fill(&mut rt.stdin(), &mut text)?;
     let mut lines = [0u8; 5729];
     let written = answer::answer(&text[..n], &mut lines);
     match written {
-        Writing::Refused(_) => print(b"refusal=11\nplace=0\n"),
-        Writing::Bytes(end) => print(&lines[..end]),
+        Writing::Refused(_) => rt.stdout().write_all(b"refusal=11\nplace=0\n"),
+        Writing::Bytes(end) => rt.stdout().write_all(&lines[..end]),
     }
 }
