@@ -11,6 +11,8 @@ ghost use Rattle.std.specs.Prelude.{◌≤◌, length};
 use density::Verdict;
 use input::Filled;
 use plan::Planned;
+use std::io;
+use std::io::{Stdout, Write};
 
 // Which entry a case is for.
 #[derive(Clone, Copy)]
@@ -21,49 +23,68 @@ enum Asked {
 }
 
 // Whether the plan is found within its bounds.
-fn bounds(jobs: &[u32], arcs: &[u32], sections: &[u32], times: &[u32]) {
+fn bounds(
+    out: &mut Stdout,
+    jobs: &[u32],
+    arcs: &[u32],
+    sections: &[u32],
+    times: &[u32],
+) -> io::Result<()> {
     if plan::plan_in_bounds(jobs, arcs, sections, times) {
-        output::say(b": within\n");
+        writeln!(out, ": within")
     } else {
-        output::say(b": outside\n");
+        writeln!(out, ": outside")
     }
 }
 
 // What `plan` answers, what it left of the lent list, and whether the times that it gives are within their bounds.
-fn planned(jobs: &[u32], arcs: &[u32], sections: &[u32], times: &mut [u32]) {
+fn planned(
+    out: &mut Stdout,
+    jobs: &[u32],
+    arcs: &[u32],
+    sections: &[u32],
+    times: &mut [u32],
+) -> io::Result<()> {
     let planned = plan::plan(jobs, arcs, sections, times);
     match planned {
         Planned::Refused(refusal) => {
-            output::refused(refusal);
-            output::kept(times);
-            output::say(b"\n");
+            output::refused(out, refusal)?;
+            output::kept(out, times)?;
+            writeln!(out)
         }
         Planned::Times(n) => {
             let front = input::at_most(n, times.len());
-            output::say(b": times");
-            output::pairs(&times[..front]);
-            output::kept(&times[front..]);
-            bounds(jobs, arcs, sections, &times[..front]);
+            write!(out, ": times")?;
+            output::pairs(out, &times[..front])?;
+            output::kept(out, &times[front..])?;
+            bounds(out, jobs, arcs, sections, &times[..front])
         }
     }
 }
 
 // What the density test answers.
-fn tested(verdict: Verdict) {
+fn tested(out: &mut Stdout, verdict: Verdict) -> io::Result<()> {
     match verdict {
-        Verdict::Yes => output::say(b": yes"),
-        Verdict::No(place) => output::count(b": no, place ", place),
-        Verdict::Refused(refusal) => output::refused(refusal),
+        Verdict::Yes => write!(out, ": yes")?,
+        Verdict::No(place) => write!(out, ": no, place {place}")?,
+        Verdict::Refused(refusal) => output::refused(out, refusal)?,
     }
-    output::say(b"\n");
+    writeln!(out)
 }
 
 // The answer to a case.
-fn answer(asked: Asked, jobs: &[u32], arcs: &[u32], sections: &[u32], times: &mut [u32]) {
+fn answer(
+    out: &mut Stdout,
+    asked: Asked,
+    jobs: &[u32],
+    arcs: &[u32],
+    sections: &[u32],
+    times: &mut [u32],
+) -> io::Result<()> {
     match asked {
-        Asked::Plan => planned(jobs, arcs, sections, times),
-        Asked::Bounds => bounds(jobs, arcs, sections, times),
-        Asked::Density => tested(density::density(jobs, arcs, sections, times)),
+        Asked::Plan => planned(out, jobs, arcs, sections, times),
+        Asked::Bounds => bounds(out, jobs, arcs, sections, times),
+        Asked::Density => tested(out, density::density(jobs, arcs, sections, times)),
     }
 }
 
@@ -78,7 +99,7 @@ fn times_of(text: &[u8], at: usize, asked: Asked, list: &mut [u32]) -> Filled
 }
 
 // The case that starts at `at`: its number and its answer. What is returned is where the next one starts.
-fn case(text: &[u8], at: usize, asked: Asked) -> usize {
+fn case(out: &mut Stdout, text: &[u8], at: usize, asked: Asked) -> io::Result<usize> {
     let mut jobs = input::places();
     let mut arcs = input::places();
     let mut sections = input::places();
@@ -92,34 +113,38 @@ fn case(text: &[u8], at: usize, asked: Asked) -> usize {
     let na = a.length;
     let ns = s.length;
     let nt = t.length;
-    output::count(b"", label.value);
+    let number = label.value;
+    write!(out, "{number}")?;
     answer(
+        out,
         asked,
         &jobs[..nj],
         &arcs[..na],
         &sections[..ns],
         &mut times[..nt],
-    );
-    t.next
+    )?;
+    Ok(t.next)
 }
 
 // The cases for one entry, from their count on; the answer is where they end.
-fn cases(text: &[u8], start: usize, asked: Asked) -> usize {
+fn cases(out: &mut Stdout, text: &[u8], start: usize, asked: Asked) -> io::Result<usize> {
     let first = input::number(text, start);
     let count = first.value;
     let mut at = first.next;
     let mut k = 0;
     while k < count {
-        at = case(text, at, asked);
+        at = case(out, text, at, asked)?;
         k += 1;
     }
-    at
+    Ok(at)
 }
 
-fn main() {
-    let mut text = io::large_buffer();
-    let n = io::read_full(0, &mut text);
-    let planned = cases(&text[..n], 0, Asked::Plan);
-    let judged = cases(&text[..n], planned, Asked::Bounds);
-    cases(&text[..n], judged, Asked::Density);
+fn main(rt: HostRuntime) -> io::Result<()> {
+    let mut text = [0u8; 65536];
+    let n = reading::fill(&mut rt.stdin(), &mut text)?;
+    let mut out = rt.stdout();
+    let planned = cases(&mut out, &text[..n], 0, Asked::Plan)?;
+    let judged = cases(&mut out, &text[..n], planned, Asked::Bounds)?;
+    cases(&mut out, &text[..n], judged, Asked::Density)?;
+    Ok(())
 }

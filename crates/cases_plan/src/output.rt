@@ -1,25 +1,17 @@
 // Words, numbers and times to standard output.
-use libc::STDOUT_FILENO;
 use rules::Refusal;
-
-pub fn say(words: &[u8]) {
-    io::write_all(STDOUT_FILENO, words);
-}
-
-// A word and a number.
-pub fn count(words: &[u8], x: u32) {
-    say(words);
-    io::print_decimal(STDOUT_FILENO, x as u64);
-}
+use std::io;
+use std::io::{Stdout, Write};
 
 // A refusal's number and place.
-pub fn refused(refusal: Refusal) {
-    count(b": refusal ", refusal.number());
-    count(b" place ", refusal.place());
+pub fn refused(out: &mut Stdout, refusal: Refusal) -> io::Result<()> {
+    let number = refusal.number();
+    let place = refusal.place();
+    write!(out, ": refusal {number} place {place}")
 }
 
 // How many of the numbers are still the 7 that the list was lent with.
-pub fn kept(rest: &[u32]) {
+pub fn kept(out: &mut Stdout, rest: &[u32]) -> io::Result<()> {
     let mut same = 0usize;
     let mut i = 0;
     while i < rest.len() {
@@ -28,20 +20,18 @@ pub fn kept(rest: &[u32]) {
         }
         i += 1;
     }
-    say(b" kept ");
-    io::print_decimal(STDOUT_FILENO, same as u64);
-    say(b" of ");
-    io::print_decimal(STDOUT_FILENO, i as u64);
+    write!(out, " kept {same} of {i}")
 }
 
 // The pairs of a list of times.
-pub fn pairs(times: &[u32]) {
+pub fn pairs(out: &mut Stdout, times: &[u32]) -> io::Result<()> {
     let n = times.len() / 2;
     let mut j = 0;
     while j < n {
-        count(b" (", times[2 * j]);
-        count(b",", times[2 * j + 1]);
-        say(b")");
+        let release = times[2 * j];
+        let deadline = times[2 * j + 1];
+        write!(out, " ({release},{deadline})")?;
         j += 1;
     }
+    Ok(())
 }

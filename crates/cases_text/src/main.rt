@@ -1,22 +1,16 @@
 #![tactic(auto)]
 // Reads the text of each file that its arguments name and prints, a line each, what `read` says; what was read is written
 // again, and the bytes are compared. Then the writer's refusals.
-use libc::STDOUT_FILENO;
 use rules::Refusal;
+use std::io::{Stdout, Write};
+use std::rt::Files;
+use std::{env, fs, io};
 use text::{Reading, Writing};
 
-fn print(words: &[u8]) {
-    io::write_all(STDOUT_FILENO, words);
-}
-
-fn print_number(words: &[u8], n: u64) {
-    print(words);
-    io::print_decimal(STDOUT_FILENO, n);
-}
-
-fn print_refusal(r: Refusal) {
-    print_number(b" refusal=", r.number() as u64);
-    print_number(b" place=", r.place() as u64);
+fn print_refusal(out: &mut Stdout, r: Refusal) -> io::Result<()> {
+    let number = r.number();
+    let place = r.place();
+    write!(out, " refusal={number} place={place}")
 }
 
 // The first n of a list, or all of them where it has fewer.
@@ -35,137 +29,125 @@ fn front_bytes(bytes: &[u8], n: usize) -> &[u8] {
 }
 
 // Writes a table that was read, into as many bytes as the longest text has, and compares.
-fn write_again(text: &[u8], jobs: &[u32], arcs: &[u32], sections: &[u32]) {
-    let mut out = [0u8; 20830];
-    let said = text::write(jobs, arcs, sections, &mut out);
+fn write_again(
+    out: &mut Stdout,
+    text: &[u8],
+    jobs: &[u32],
+    arcs: &[u32],
+    sections: &[u32],
+) -> io::Result<()> {
+    let mut bytes = [0u8; 20830];
+    let said = text::write(jobs, arcs, sections, &mut bytes);
     match said {
-        Writing::Refused(r) => print_refusal(r),
+        Writing::Refused(r) => print_refusal(out, r),
         Writing::Bytes(n) => {
-            print_number(b" bytes=", n as u64);
-            if check::same(text, front_bytes(&out, n)) {
-                print(b" same");
+            write!(out, " bytes={n}")?;
+            if text == front_bytes(&bytes, n) {
+                write!(out, " same")
             } else {
-                print(b" other");
+                write!(out, " other")
             }
         }
     }
 }
 
 // Reads a text into lists that have just the room for the largest table.
-fn read_text(text: &[u8]) {
+fn read_text(out: &mut Stdout, text: &[u8]) -> io::Result<()> {
     let mut jobs = [0u32; 192];
     let mut arcs = [0u32; 512];
     let mut sections = [0u32; 512];
     let said = text::read(text, &mut jobs, &mut arcs, &mut sections);
     match said {
-        Reading::Refused(r) => print_refusal(r),
+        Reading::Refused(r) => print_refusal(out, r),
         Reading::Counts {
             jobs: j,
             arcs: a,
             sections: s,
         } => {
-            print_number(b" jobs=", j as u64);
-            print_number(b" arcs=", a as u64);
-            print_number(b" sections=", s as u64);
+            write!(out, " jobs={j} arcs={a} sections={s}")?;
             let j = front(&jobs, 3 * j as usize);
             let a = front(&arcs, 2 * a as usize);
             let s = front(&sections, 4 * s as usize);
-            write_again(text, j, a, s);
-            read_short(text);
+            write_again(out, text, j, a, s)?;
+            read_short(out, text)
         }
     }
 }
 
 // Reads a text into a list of jobs, of arcs or of sections that has one place too few for a single row.
-fn read_short(text: &[u8]) {
+fn read_short(out: &mut Stdout, text: &[u8]) -> io::Result<()> {
     let mut jobs = [0u32; 192];
     let mut arcs = [0u32; 512];
     let mut sections = [0u32; 512];
     let mut two = [0u32; 2];
     let mut one = [0u32; 1];
     let mut three = [0u32; 3];
-    print(b" short:");
-    print_short(text::read(text, &mut two, &mut arcs, &mut sections));
-    print_short(text::read(text, &mut jobs, &mut one, &mut sections));
-    print_short(text::read(text, &mut jobs, &mut arcs, &mut three));
+    write!(out, " short:")?;
+    print_short(out, text::read(text, &mut two, &mut arcs, &mut sections))?;
+    print_short(out, text::read(text, &mut jobs, &mut one, &mut sections))?;
+    print_short(out, text::read(text, &mut jobs, &mut arcs, &mut three))
 }
 
-fn print_short(said: Reading) {
+fn print_short(out: &mut Stdout, said: Reading) -> io::Result<()> {
     match said {
-        Reading::Refused(r) => print_refusal(r),
+        Reading::Refused(r) => print_refusal(out, r),
         Reading::Counts {
             jobs: _,
             arcs: _,
             sections: _,
-        } => print(b" read"),
+        } => write!(out, " read"),
     }
 }
 
-// One file: its name, and what is read.
-fn read_file(name: &[u8]) {
-    let fd = os::open_read(name);
-    if fd < 0 {
-        os::fail(name);
-        return;
+// One file: its name, and what is read. A file that can't be opened is named as an error, and the next one follows.
+fn read_file<R: Files + Eprint>(rt: &R, out: &mut Stdout, name: &str) -> io::Result<()> {
+    match fs::open(rt, name) {
+        Err(error) => eprintln!(rt; "{name}: {error}"),
+        Ok(mut file) => {
+            let mut buffer = [0u8; 20831];
+            let n = reading::fill(&mut file, &mut buffer)?;
+            write!(out, "{name}")?;
+            read_text(out, &buffer[..n])?;
+            writeln!(out)
+        }
     }
-    let mut buffer = [0u8; 20831];
-    let n = io::read_full(fd, &mut buffer);
-    libc::close(fd);
-    print(name);
-    read_text(&buffer[..n]);
-    print(b"\n");
-}
-
-// Every file that an argument names.
-fn read_files() {
-    let count = os::arg_count();
-    let mut i = 1;
-    while i < count {
-        read_argument(i);
-        i += 1;
-    }
-}
-
-fn read_argument(i: usize) {
-    let mut name = io::buffer();
-    let n = os::arg(i, &mut name);
-    read_file(&name[..n]);
 }
 
 // Writes lists of zeros, so many of each, into the bytes.
-fn write_zeros(j: usize, a: usize, s: usize, out: &mut [u8]) {
+fn write_zeros(out: &mut Stdout, j: usize, a: usize, s: usize, bytes: &mut [u8]) -> io::Result<()> {
     let jobs = [0u32; 195];
     let arcs = [0u32; 514];
     let sections = [0u32; 516];
-    print_number(b"write ", j as u64);
-    print_number(b" ", a as u64);
-    print_number(b" ", s as u64);
-    print_number(b" into ", out.len() as u64);
-    let said = text::write(front(&jobs, j), front(&arcs, a), front(&sections, s), out);
+    let room = bytes.len();
+    write!(out, "write {j} {a} {s} into {room}")?;
+    let said = text::write(front(&jobs, j), front(&arcs, a), front(&sections, s), bytes);
     match said {
-        Writing::Refused(r) => print_refusal(r),
-        Writing::Bytes(n) => print_number(b" bytes=", n as u64),
+        Writing::Refused(r) => print_refusal(out, r)?,
+        Writing::Bytes(n) => write!(out, " bytes={n}")?,
     }
-    print(b"\n");
+    writeln!(out)
 }
 
 // What the writer refuses, and the least room for one job.
-fn write_lists() {
+fn write_lists(out: &mut Stdout) -> io::Result<()> {
     let mut less = [0u8; 52];
     let mut least = [0u8; 53];
-    write_zeros(0, 0, 0, &mut less);
-    write_zeros(2, 0, 0, &mut less);
-    write_zeros(4, 0, 0, &mut less);
-    write_zeros(195, 1, 2, &mut less);
-    write_zeros(192, 1, 0, &mut less);
-    write_zeros(3, 514, 2, &mut less);
-    write_zeros(3, 0, 2, &mut less);
-    write_zeros(3, 0, 516, &mut less);
-    write_zeros(3, 0, 0, &mut less);
-    write_zeros(3, 0, 0, &mut least);
+    write_zeros(out, 0, 0, 0, &mut less)?;
+    write_zeros(out, 2, 0, 0, &mut less)?;
+    write_zeros(out, 4, 0, 0, &mut less)?;
+    write_zeros(out, 195, 1, 2, &mut less)?;
+    write_zeros(out, 192, 1, 0, &mut less)?;
+    write_zeros(out, 3, 514, 2, &mut less)?;
+    write_zeros(out, 3, 0, 2, &mut less)?;
+    write_zeros(out, 3, 0, 516, &mut less)?;
+    write_zeros(out, 3, 0, 0, &mut less)?;
+    write_zeros(out, 3, 0, 0, &mut least)
 }
 
-fn main() {
-    read_files();
-    write_lists();
+fn main(rt: HostRuntime) -> io::Result<()> {
+    let mut out = rt.stdout();
+    for name in env::args(&rt)?.skip(1) {
+        read_file(&rt, &mut out, name.as_str())?;
+    }
+    write_lists(&mut out)
 }
