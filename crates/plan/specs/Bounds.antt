@@ -7,7 +7,6 @@ use Rattle.rules.specs.Table.{Plan, latest, job_count, cost, modified_release, m
 use Rattle.rules.specs.Refusals.{accepted, times_right, plan_in_bounds}
 use Rattle.laws.specs.Tests.{le_says, says_agree, no_of}
 use Rattle.laws.specs.Refusals.{TimesIn, times_says}
-use Rattle.rules.specs.Lists.{table}
 use Rattle.rows.specs.Judged.{values_fault}
 
 module _ (p : Plan) (j : ℕ) where

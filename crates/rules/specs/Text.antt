@@ -1,7 +1,6 @@
 -- 01, "The text": how a table is written as lines of key=value, and how such a text is read.
 use Rattle.std.specs.Prelude.{Bool, cond, ◌&&◌, ◌||◌, List, [], ◌∷◌, ◌++◌, ℕ, zero, suc, ◌+◌, ◌*◌, ◌-◌, ◌/◌, ◌%◌, length, get_or, ltb, leb, eqb}
 use Prim.Native.Char.{code}
-use Prim.Native.String as String
 use Prim.Native.String.{String}
 use Rattle.rules.specs.Table.{Table, job_width, arc_width, section_width}
 use Rattle.rules.specs.Refusals.{Outcome, refused, gives, and_then, fault, jobs_right, arcs_right, sections_right}

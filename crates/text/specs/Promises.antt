@@ -1,5 +1,5 @@
 -- What `read` and `write` promise for every input: the answer, and what the lent lists hold afterwards.
-use Rattle.std.specs.Prelude.{◌≡◌, List, [], ◌∷◌, ◌++◌, ℕ, ◌+◌, length, drop}
+use Rattle.std.specs.Prelude.{◌≡◌, List, [], ◌∷◌, ◌++◌, ℕ, length, drop}
 use Rattle.std.proofs.Math.Option.{Option}
 use Rattle.rules.specs.Table.{Table, job_count, arc_count, section_count}
 use Rattle.rules.specs.Refusals.{Fault, fault_of, Outcome, refused, gives, and_then, first_of, unless, count_faults, room}

@@ -3,8 +3,7 @@ use Rattle.std.proofs.Common.{length-take-le, ◌≡◌, sym, ◌∙◌, true, �
 use Rattle.std.proofs.Math.Option.{none}
 use Rattle.std.proofs.Math.Path.{ap}
 use Rattle.dispatch.specs.Judged.{plan_fit, bounded}
-use Rattle.dispatch.specs.Promise.{Lists, lists, holding, fault_for, reach_for, told, start-room, reached_holds, run_holds}
-use Rattle.dispatch.specs.declared.Reached.{Reached}
+use Rattle.dispatch.specs.Promise.{Lists, lists, holding, fault_for, reach_for, start-room, reached_holds, run_holds}
 use Rattle.rules.specs.Lists.{plan}
 use Rattle.rules.specs.Refusals.{plan_in_bounds}
 use Rattle.rules.specs.Run.{start, end_state, all_end_by}

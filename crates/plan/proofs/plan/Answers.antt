@@ -10,7 +10,6 @@ use Rattle.rules.specs.Lists.{table}
 use Rattle.rules.specs.Refusals.{at_row, too_short, check_fault}
 use Rattle.rules.specs.Rows.{lowest}
 use Rattle.rules.specs.Table.{job_count}
-use borrow.Author.Rules.{rules}
 use Rattle.plan.proofs.plan.Goals as goal
 use Rattle.plan.proofs.plan.Goals.{After-rounds-tails, In_default, In_default-windows}
 

@@ -1,7 +1,6 @@
 use Rattle.std.proofs.Common.{refl, ◌+◌, ◌*◌, ◌≤◌, arith, get_or}
 use Rattle.laws.specs.Rows.{sum_more}
 use Rattle.rules.specs.Rows.{sum}
-use Rattle.rules.specs.Table.{cost}
 use Rattle.states.proofs.ends.total_cost.Goals as goal
 use Rattle.states.proofs.ends.total_cost.Goals.{In-loop-j}
 
