@@ -6,7 +6,7 @@ use native.Mathlib.Omega.{arith}
 use Rattle.rules.specs.Table.{Plan, State}
 use Rattle.rules.specs.Refusals.{all_finished}
 use Rattle.rules.specs.Run.{answered}
-use Rattle.laws.specs.Events.{answered-on}
+use Rattle.laws.proofs.Events.{answered-on}
 use Rattle.ticks.specs.Lists.{Fit}
 use Rattle.events.specs.Events.{Next, over, later}
 

@@ -10,7 +10,7 @@ use Rattle.rules.specs.Run.{after_reports, all_end_by, end_state}
 use Rattle.rules.specs.declared.Refusal.{Refusal}
 use Rattle.laws.specs.Answers.{fault_settles}
 use Rattle.run_laws.specs.States.{Good, good, answered-is}
-use Rattle.run_laws.specs.Theorems.{end_reached}
+use Rattle.run_laws.proofs.Theorems.{end_reached}
 use Rattle.laws.specs.Chosen.{chosen_left}
 use Rattle.rules.specs.Lists.{state}
 use Rattle.dispatch.specs.Judged.{in_bounds, JobStateIn, StateIn, state_in, in_state, step_good}

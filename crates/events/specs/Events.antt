@@ -16,7 +16,8 @@ use Rattle.rules.specs.Run.{onward}
 use Rattle.laws.specs.Tests.{Says, lt_says, eq_says, says_and, yes_says, yes_of}
 use Rattle.laws.specs.Rows.{smallest_base, smallest-at, smallest_least}
 use Rattle.laws.specs.Chosen.{chosen_left}
-use Rattle.laws.specs.Events.{Unreleased, Quiet, advance_by, answered-at_once, given_unended, ticks_idle, idle_unended}
+use Rattle.laws.specs.Events.{Unreleased, Quiet, advance_by}
+use Rattle.laws.proofs.Events.{answered-at_once, given_unended, ticks_idle, idle_unended}
 use Rattle.rules.specs.Lists.{plan, state, timed}
 
 -- the smallest modified release after the tick, of the first n jobs, and at most `end`

@@ -9,6 +9,4 @@ pub mod States
 pub mod Ticks
 pub mod AnyChoice
 pub mod Statement
-pub mod Theorems
-pub mod Instances
 pub mod Readings

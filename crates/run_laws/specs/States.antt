@@ -14,7 +14,7 @@ use Rattle.rules.specs.Rows.{count}
 use Rattle.rules.specs.Table.{Plan, State, job_count, executed}
 use Rattle.rules.specs.Tick.{chosen, ends, ends_stale, mark_for, advance, move, tick}
 use Rattle.rules.specs.Run.{start, onward, after_reports, waits, waited}
-use Rattle.laws.specs.Events.{onward_snoc}
+use Rattle.laws.proofs.Events.{onward_snoc}
 
 -- the report at each place of a list; answered past its end
 abbrev pub report_in : List Bool → ℕ → Bool

@@ -4,7 +4,8 @@ use Rattle.std.proofs.Math.Option.{some}
 use Rattle.choice.specs.Choice.{found-is, found_at, found_none}
 use Rattle.choice.specs.Lists.{within-at}
 use Rattle.laws.specs.Chosen.{chosen_left, tick_idle, tick_runs}
-use Rattle.laws.specs.Events.{advance_by, advance-one}
+use Rattle.laws.specs.Events.{advance_by}
+use Rattle.laws.proofs.Events.{advance-one}
 use Rattle.rules.specs.Lists.{plan, state}
 use Rattle.rules.specs.Tick.{chosen}
 use Rattle.rules.specs.Table.{Plan, State}

@@ -10,7 +10,7 @@ use Rattle.rules.specs.Examples.{p1, p1-plan, all-answered, tick_5_silent}
 use Rattle.laws.specs.Tests.{clash}
 use Rattle.laws.specs.Reach.{Ancestor, direct}
 use Rattle.run_laws.specs.Statement.{state_at, Inside, while_held, EndedSilent, WaitsOnlyFor, steps}
-use Rattle.run_laws.specs.Theorems.{
+use Rattle.run_laws.proofs.Theorems.{
   ancestors-first,
   one_inside,
   marks_right,
