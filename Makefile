@@ -20,7 +20,7 @@ all: $(archive)
 
 # No prerequisites: `rt` knows when what it has proved is out of date, and .ci/c asks it.
 $(archive):
-	rt staticlib zubrelets_c
+	tools/build zubrelets_c
 
 install: $(archive)
 	install -d "$(lib)/pkgconfig" "$(include)"
