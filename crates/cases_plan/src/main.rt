@@ -12,7 +12,7 @@ use density::Verdict;
 use input::Filled;
 use plan::Planned;
 use std::io;
-use std::io::{Stdout, Write};
+use std::io::Stdout;
 
 // Which entry a case is for.
 #[derive(Clone, Copy)]
@@ -31,9 +31,9 @@ fn bounds(
     times: &[u32],
 ) -> io::Result<()> {
     if plan::plan_in_bounds(jobs, arcs, sections, times) {
-        writeln!(out, ": within")
+        output::say(out, b": within\n")
     } else {
-        writeln!(out, ": outside")
+        output::say(out, b": outside\n")
     }
 }
 
@@ -50,11 +50,11 @@ fn planned(
         Planned::Refused(refusal) => {
             output::refused(out, refusal)?;
             output::kept(out, times)?;
-            writeln!(out)
+            output::say(out, b"\n")
         }
         Planned::Times(n) => {
             let front = input::at_most(n, times.len());
-            write!(out, ": times")?;
+            output::say(out, b": times")?;
             output::pairs(out, &times[..front])?;
             output::kept(out, &times[front..])?;
             bounds(out, jobs, arcs, sections, &times[..front])
@@ -65,11 +65,11 @@ fn planned(
 // What the density test answers.
 fn tested(out: &mut Stdout, verdict: Verdict) -> io::Result<()> {
     match verdict {
-        Verdict::Yes => write!(out, ": yes")?,
-        Verdict::No(place) => write!(out, ": no, place {place}")?,
+        Verdict::Yes => output::say(out, b": yes")?,
+        Verdict::No(place) => output::count(out, b": no, place ", place)?,
         Verdict::Refused(refusal) => output::refused(out, refusal)?,
     }
-    writeln!(out)
+    output::say(out, b"\n")
 }
 
 // The answer to a case.
@@ -113,8 +113,7 @@ fn case(out: &mut Stdout, text: &[u8], at: usize, asked: Asked) -> io::Result<us
     let na = a.length;
     let ns = s.length;
     let nt = t.length;
-    let number = label.value;
-    write!(out, "{number}")?;
+    output::count(out, b"", label.value)?;
     answer(
         out,
         asked,

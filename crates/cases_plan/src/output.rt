@@ -3,11 +3,20 @@ use rules::Refusal;
 use std::io;
 use std::io::{Stdout, Write};
 
+pub fn say(out: &mut Stdout, words: &[u8]) -> io::Result<()> {
+    out.write_all(words)
+}
+
+// A word and a number.
+pub fn count(out: &mut Stdout, words: &[u8], x: u32) -> io::Result<()> {
+    say(out, words)?;
+    write!(out, "{x}")
+}
+
 // A refusal's number and place.
 pub fn refused(out: &mut Stdout, refusal: Refusal) -> io::Result<()> {
-    let number = refusal.number();
-    let place = refusal.place();
-    write!(out, ": refusal {number} place {place}")
+    count(out, b": refusal ", refusal.number())?;
+    count(out, b" place ", refusal.place())
 }
 
 // How many of the numbers are still the 7 that the list was lent with.
@@ -28,9 +37,9 @@ pub fn pairs(out: &mut Stdout, times: &[u32]) -> io::Result<()> {
     let n = times.len() / 2;
     let mut j = 0;
     while j < n {
-        let release = times[2 * j];
-        let deadline = times[2 * j + 1];
-        write!(out, " ({release},{deadline})")?;
+        count(out, b" (", times[2 * j])?;
+        count(out, b",", times[2 * j + 1])?;
+        say(out, b")")?;
         j += 1;
     }
     Ok(())
