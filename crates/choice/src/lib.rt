@@ -211,7 +211,8 @@ pub fn choose(jobs: &[u32], sections: &[u32], times: &[u32], tick: u32, executed
     match first {
         Found::Nothing => first,
         Found::At(job) => {
-            if 0 < executed[job] {
+            let started = 0 < executed[job];
+            if started {
                 return first;
             }
             let units = held_units(jobs, sections, times, tick, executed);

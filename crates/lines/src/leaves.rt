@@ -125,11 +125,13 @@ fn read_number(digits: &[u8]) -> Found
                 end: i,
             };
         }
-        if value == 0 {
+        let leading = value == 0;
+        if leading {
             return Found::Stopped(i);
         }
         let longer = value * 10 + wide(digit - 48);
-        if 4294967295 < longer {
+        let too_large = 4294967295 < longer;
+        if too_large {
             return Found::Stopped(i);
         }
         value = longer;

@@ -161,7 +161,8 @@ pub fn judge_windows(jobs: &[u32], releases: &[u32; 64], tails: &[u32; 64]) -> J
     let n = jobs.len() / 3;
     let mut j = 0;
     while j < n {
-        if releases[j] + jobs[3 * j + 1] + tails[j] > LATEST {
+        let short = releases[j] + jobs[3 * j + 1] + tails[j] > LATEST;
+        if short {
             return Judged::Wrong(Refusal::Window(j as u32));
         }
         j += 1;

@@ -14,6 +14,7 @@ use rows::Judged;
 use rules::{Instant, Refusal};
 
 // Whether a job's modified times lie in 0 to 1,000,000, window at least cost.
+#[tactic(auto, using(std::proofs::lemmas::Bool::Decides::nat_tests), unfolding(rules::specs::Refusals::times_right))]
 fn times_right(jobs: &[u32], times: &[u32], j: usize) -> bool
     requires { (3 * j + 2 < length jobs.now) × (2 * j + 1 < length times.now) }
     ensures { result ≡ times_right (plan jobs.now [] [] times.now) j }

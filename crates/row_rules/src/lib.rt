@@ -19,6 +19,7 @@ fn wide(x: u32) -> usize
 }
 
 // 5: a release, cost or deadline out of bounds.
+#[tactic(auto, using(std::proofs::lemmas::Bool::Decides::nat_tests), unfolding(rules::specs::Refusals::job_out))]
 pub fn job_out(jobs: &[u32], j: usize) -> bool
     requires { 3 * j + 2 < length jobs.now }
     ensures { result ≡ job_out (table jobs.now [] []) j }

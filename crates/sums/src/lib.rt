@@ -53,7 +53,8 @@ fn sum_to(times: &[u32], shares: &[u64; 64], n: usize, j: usize) -> u64
     let mut total = 0;
     let mut i = 0;
     while i < n {
-        if !sorts_before(times, j, i) {
+        let counts = !sorts_before(times, j, i);
+        if counts {
             total += shares[i];
         }
         i += 1;
@@ -123,12 +124,14 @@ fn longer(sections: &[u32], times: &[u32], ceilings: &[u32; 16], d: Span, s: usi
         return b;
     }
     let e = owner_span(sections, times, s);
-    if !d.below(e) {
+    let outside = !d.below(e);
+    if outside {
         return b;
     }
     let q = entry(sections, 4 * s + 1);
     let c = Span(ceilings[q]);
-    if d.below(c) {
+    let above = d.below(c);
+    if above {
         return b;
     }
     t

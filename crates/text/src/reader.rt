@@ -82,7 +82,8 @@ pub fn read_text(text: &[u8], jobs: &mut [u32], arcs: &mut [u32], sections: &mut
                     match third {
                         PartRead::Refused(r) => Reading::Refused(r),
                         PartRead::Rows(s, at, line) => {
-                            if at < text.len() {
+                            let more = at < text.len();
+                            if more {
                                 return Reading::Refused(Refusal::Text(line));
                             }
                             Reading::Counts {

@@ -17,7 +17,7 @@ tested c = rw (← c.release_of.ensures) c.is_candidate.ensures
 passing : (c : Else-not-is_candidate) → let a = c.args in
     candidate a.started_only (timed a.jobs.now a.times.now) (at a.tick a.executed.now) a.j ≡ true
 unfolding candidate
-passing c = sym (let tested : let a = c.args in c.is_candidate.result ≡ candidate a.started_only (timed a.jobs.now a.times.now) (at a.tick a.executed.now) a.j = rw (← c.release_of.ensures) c.is_candidate.ensures in tested) ∙ c.if-not-is_candidate.false
+passing c = sym (rw (← c.release_of.ensures) c.is_candidate.ensures) ∙ c.if-not-is_candidate.false
 
 pub returns-then-not-is_candidate : goal.returns-then-not-is_candidate
 returns-then-not-is_candidate c = rw (sym (tested (goal.at.returns-then-not-is_candidate c).After-is_candidate) ∙ c.if-not-is_candidate.true) (sym (better-is kept))

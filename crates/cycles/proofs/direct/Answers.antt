@@ -9,5 +9,5 @@ pub loop-a-preserved : goal.loop-a-preserved
 loop-a-preserved c = (
   omega arith,
   rw c.with.ensures
-      (upto_more _ _ _ _ _ ((let ends : (c.wide-before.result < 64) × (c.wide-after.result < 64) = let h = c.requires c.loop-a.a (omega arith) in (omega arith, omega arith) in ends)).0 c.wide-before.ensures c.wide-after.ensures c.loop-a.invariant.1),
+      (upto_more _ _ _ _ _ (let ends : (c.wide-before.result < 64) × (c.wide-after.result < 64) = let h = c.requires c.loop-a.a (omega arith) in (omega arith, omega arith) in ends).0 c.wide-before.ensures c.wide-after.ensures c.loop-a.invariant.1),
 )

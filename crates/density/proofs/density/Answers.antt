@@ -21,10 +21,10 @@ returns-then-not-plan_in_bounds c = let a = c.args in
     answers_bounds a.jobs.now a.arcs.now a.sections.now a.times.now c.plan_in_bounds.ensures (c.if-not-plan_in_bounds.true)
 
 pub multiple-common-requires : goal.multiple-common-requires
-multiple-common-requires c = ((bounded (goal.at.multiple-common-requires c).Else-not-plan_in_bounds)).0.spans
+multiple-common-requires c = (bounded (goal.at.multiple-common-requires c).Else-not-plan_in_bounds).0.spans
 
 pub judge-requires : goal.judge-requires
-judge-requires c = (((bounded (goal.at.judge-requires c).Else-not-plan_in_bounds)).0, ((bounded (goal.at.judge-requires c).Else-not-plan_in_bounds)).1, omega (arith, told-within _ _ _ c.multiple-common.ensures c.in-Of.is))
+judge-requires c = (((bounded (goal.at.judge-requires c).Else-not-plan_in_bounds)).0, (bounded (goal.at.judge-requires c).Else-not-plan_in_bounds).1, omega (arith, told-within _ _ _ c.multiple-common.ensures c.in-Of.is))
 
 pub returns-in-Over : goal.returns-in-Over
 returns-in-Over c = let a = c.args in

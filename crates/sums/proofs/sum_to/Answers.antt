@@ -2,19 +2,19 @@ use Rattle.std.proofs.Common.{refl, sym, ◌∙◌, arith}
 use Rattle.laws.specs.Rows.{sum_more}
 use Rattle.rules.specs.Rows.{sum}
 use Rattle.sums.proofs.sum_to.Goals as goal
-use Rattle.sums.proofs.sum_to.Goals.{then-not-sorts_before, else-not-sorts_before}
+use Rattle.sums.proofs.sum_to.Goals.{then-counts, else-counts}
 
 pub loop-i-init : goal.loop-i-init
 unfolding sum
 loop-i-init c = (omega arith, omega arith, refl)
 
 pub loop-i-preserved : goal.loop-i-preserved
-loop-i-preserved c = let s = sym c.sorts_before.ensures in
-    elim c.if-not-sorts_before.branch [
-      | then-not-sorts_before w ↦ (
+loop-i-preserved c = let s = sym c.sorts_before-counts.ensures in
+    elim c.if-counts.branch [
+      | then-counts w ↦ (
         omega arith,
         omega (arith, w.total-is, c.loop-i.invariant.1, c.requires.2.most c.loop-i.i (omega arith)),
-        simp (sum_more, s ∙ w.if-not-sorts_before.true) (omega (arith, w.total-is)),
+        simp (sum_more, s ∙ w.if-counts.true) (omega (arith, w.total-is)),
       )
-      | else-not-sorts_before w ↦ (omega arith, omega arith, simp (sum_more, s ∙ w.if-not-sorts_before.false) (omega arith))
+      | else-counts w ↦ (omega arith, omega arith, simp (sum_more, s ∙ w.if-counts.false) (omega arith))
     ]

@@ -4,6 +4,11 @@ use Rattle.laws.specs.Digits.{line-bytes, line-length}
 use Rattle.lines.specs.Pieces.{two, one}
 use Rattle.rules.specs.Text.{key}
 use Rattle.lines.proofs.writer.put_line.Goals as goal
+use Rattle.lines.proofs.writer.put_line.Goals.{After-put_number-end}
+
+-- there is room for the LF
+ended : (c : After-put_number-end) → c.put_number-end.result < length c.put_number-end.new.out
+ended c = omega (arith, line-length (key c.args.k) c.args.value)
 
 pub put_key-equals-requires : goal.put_key-equals-requires
 put_key-equals-requires c = let a = c.args in
@@ -14,10 +19,10 @@ put_number-end-requires c = let a = c.args in
     omega (arith, line-length (key a.k) a.value)
 
 pub bounds-out-end : goal.bounds-out-end
-bounds-out-end c = (let ended : c.put_number-end.result < length c.put_number-end.new.out = let a = c.args in omega (arith, line-length (key a.k) a.value) in ended)
+bounds-out-end c = ended (goal.at.bounds-out-end c).After-put_number-end
 
 pub overflow_add-result : goal.overflow_add-result
-overflow_add-result c = omega (arith, (let ended : c.put_number-end.result < length c.put_number-end.new.out = let a = c.args in omega (arith, line-length (key a.k) a.value) in ended))
+overflow_add-result c = omega (arith, ended (goal.at.overflow_add-result c).After-put_number-end)
 
 pub returns : goal.returns
 returns c = let a = c.args in
@@ -25,5 +30,5 @@ returns c = let a = c.args in
     rw (line-bytes (key a.k) a.value)
     (two
     (two c.put_key-equals.ensures c.put_number-end.ensures (omega arith))
-    (one _ _ _ ((let ended : c.put_number-end.result < length c.put_number-end.new.out = let a = c.args in omega (arith, line-length (key a.k) a.value) in ended)))
+    (one _ _ _ (ended (goal.at.returns c).After-put_number-end))
     (rw length-append (omega arith)))

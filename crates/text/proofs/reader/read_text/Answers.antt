@@ -32,8 +32,8 @@ pub read_part-third-requires : goal.read_part-third-requires
 read_part-third-requires c = let a = (arcs_given (goal.at.read_part-third-requires c).In-Rows-second) in
     (a.within, omega (arith, next_line Jobs _ _ (jobs_given (goal.at.read_part-third-requires c).In-Rows), next_line Arcs _ _ a), omega (arith, c.requires.2))
 
-pub returns-then-at-text : goal.returns-then-at-text
-returns-then-at-text c = left_over _ (jobs_given (goal.at.returns-then-at-text c).In-Rows) (arcs_given (goal.at.returns-then-at-text c).In-Rows-second) (sections_given (goal.at.returns-then-at-text c).In-Rows-third) c.if-at-text.true
+pub returns-then-more : goal.returns-then-more
+returns-then-more c = left_over _ (jobs_given (goal.at.returns-then-more c).In-Rows) (arcs_given (goal.at.returns-then-more c).In-Rows-second) (sections_given (goal.at.returns-then-more c).In-Rows-third) c.if-more.true
 
 pub returns-in-Refused : goal.returns-in-Refused
 returns-in-Refused c = jobs_refused _ (rw c.in-Refused.is at c.read_part-first.ensures)
@@ -44,5 +44,5 @@ returns-in-Refused-second c = arcs_refused _ (jobs_given (goal.at.returns-in-Ref
 pub returns-in-Refused-third : goal.returns-in-Refused-third
 returns-in-Refused-third c = sections_refused _ (jobs_given (goal.at.returns-in-Refused-third c).In-Rows) (arcs_given (goal.at.returns-in-Refused-third c).In-Rows-second) (rw c.in-Refused-third.is at c.read_part-third.ensures)
 
-pub returns-else-at-text : goal.returns-else-at-text
-returns-else-at-text c = whole _ (jobs_given (goal.at.returns-else-at-text c).In-Rows) (arcs_given (goal.at.returns-else-at-text c).In-Rows-second) (sections_given (goal.at.returns-else-at-text c).In-Rows-third) c.if-at-text.false
+pub returns-else-more : goal.returns-else-more
+returns-else-more c = whole _ (jobs_given (goal.at.returns-else-more c).In-Rows) (arcs_given (goal.at.returns-else-more c).In-Rows-second) (sections_given (goal.at.returns-else-more c).In-Rows-third) c.if-more.false
