@@ -2,9 +2,10 @@
 // Reads the text of each file that its arguments name and prints, a line each, what `read` says; what was read is written
 // again, and the bytes are compared. Then the writer's refusals.
 use rules::Refusal;
+use std::env::FillError;
 use std::io::{Stdout, Write};
-use std::rt::Files;
-use std::{env, fs, io};
+use std::rt::{Env, Files};
+use std::{fs, io};
 use text::{Reading, Writing};
 
 fn print_refusal(out: &mut Stdout, r: Refusal) -> io::Result<()> {
@@ -100,17 +101,42 @@ fn print_short(out: &mut Stdout, said: Reading) -> io::Result<()> {
 }
 
 // One file: its name, and what is read. A file that can't be opened is named as an error, and the next one follows.
-fn read_file<R: Files + Eprint>(rt: &R, out: &mut Stdout, name: &str) -> io::Result<()> {
-    match fs::open(rt, name) {
-        Err(error) => eprintln!(rt; "{name}: {error}"),
+fn read_file<R: Files + Eprint>(rt: &R, out: &mut Stdout, name: &[u8]) -> io::Result<()> {
+    let Ok(path) = str::from_utf8(name) else {
+        return eprintln!(rt; "a name that is not UTF-8: no file of it is opened");
+    };
+    match fs::open(rt, path) {
+        Err(error) => eprintln!(rt; "{path}: {error}"),
         Ok(mut file) => {
             let mut buffer = [0u8; 20831];
             let n = reading::fill(&mut file, &mut buffer)?;
-            write!(out, "{name}")?;
+            out.write_all(name)?;
             read_text(out, &buffer[..n])?;
             writeln!(out)
         }
     }
+}
+
+// Every file that an argument names.
+fn read_files<R: Env + Files + Eprint>(rt: &R, out: &mut Stdout) -> io::Result<()> {
+    for i in 1..usize::MAX {
+        if !read_argument(rt, out, i)? {
+            break;
+        }
+    }
+    Ok(())
+}
+
+// The file that argument i names, and whether there is such an argument. One that is too long names no file.
+fn read_argument<R: Env + Files + Eprint>(rt: &R, out: &mut Stdout, i: usize) -> io::Result<bool> {
+    let mut name = [0u8; 4096];
+    let n = match rt.arg(i, &mut name) {
+        Ok(n) => n,
+        Err(FillError::TooLong) => 0,
+        Err(FillError::NotPresent) => return Ok(false),
+    };
+    read_file(rt, out, &name[..n])?;
+    Ok(true)
 }
 
 // Writes lists of zeros, so many of each, into the bytes.
@@ -146,8 +172,6 @@ fn write_lists(out: &mut Stdout) -> io::Result<()> {
 
 fn main(rt: HostRuntime) -> io::Result<()> {
     let mut out = rt.stdout();
-    for name in env::args(&rt)?.skip(1) {
-        read_file(&rt, &mut out, name.as_str())?;
-    }
+    read_files(&rt, &mut out)?;
     write_lists(&mut out)
 }

@@ -72,7 +72,8 @@ fn judge_step(
     if !in_bounds(jobs, arcs, sections, times, tick, executed, marks, finish) {
         return Judgement::Wrong(Refusal::Bounds);
     }
-    if 10000000 <= tick {
+    let last = 10000000 <= tick;
+    if last {
         return Judgement::Wrong(Refusal::Bounds);
     }
     if ticks::all_finished(jobs, executed) {
@@ -145,7 +146,8 @@ fn judge_start(
     if executed < n {
         return Judgement::Wrong(Refusal::Room);
     }
-    if marks < n {
+    let short = marks < n;
+    if short {
         return Judgement::Wrong(Refusal::Room);
     }
     if finish < n {

@@ -1,5 +1,5 @@
 -- What holds between two events: the same choice is made, so many ticks are taken at once.
-use Rattle.std.specs.Prelude.{◌≡◌, refl, ◌≢◌, ◌⊎◌, Bool, true, false, cond, ◌&&◌, List, [], ◌∷◌, ◌++◌, eqb, length, set, replicate}
+use Rattle.std.specs.Prelude.{◌≡◌, refl, ◌≢◌, ◌⊎◌, Bool, true, false, ◌&&◌, List, [], ◌∷◌, ◌++◌, length, replicate}
 use Rattle.std.proofs.Math.Path.{sym}
 use Rattle.std.proofs.Common.{◌∙◌, ap, ⊎_elim, get_or-set_same, get_or-set_other, ne_eqb}
 use Rattle.std.proofs.Math.Option.{Option, none, some}
@@ -8,36 +8,10 @@ use Rattle.std.proofs.Math.Decide.{ℕ_discrete}
 use native.Mathlib.Omega.{arith}
 use Rattle.std.proofs.lemmas.List.{length-replicate, replicate-append-replicate, set-get_or}
 use Rattle.std.proofs.Math.Seq.{set-set}
-use Rattle.rules.specs.Table.{
-  Plan,
-  State,
-  job_count,
-  cost,
-  section_count,
-  owner,
-  resource,
-  from,
-  to,
-  modified_release,
-  executed,
-}
+use Rattle.rules.specs.Table.{Plan, State, job_count, cost, section_count, owner, resource, from, to, executed}
 use Rattle.rules.specs.Order.{comes_before}
 use Rattle.rules.specs.Refusals.{finished, all_finished}
-use Rattle.rules.specs.Tick.{
-  pending,
-  started,
-  holds,
-  held_on,
-  held,
-  first_pending,
-  first_started,
-  chosen,
-  ends,
-  ends_stale,
-  mark_for,
-  advance,
-  tick,
-}
+use Rattle.rules.specs.Tick.{pending, started, holds, held_on, held, first_pending, first_started, chosen, ends, ends_stale, advance, tick}
 use Rattle.rules.specs.Run.{onward, answered}
 use Rattle.laws.specs.Tests.{Says, clash, lt_says, eq_says, bool_says, says_and, says_agree, yes_says, yes_of}
 use Rattle.laws.specs.Rows.{all-not, sum_le, bit_le}

@@ -16,8 +16,8 @@ returns-then-not-plan_in_bounds c = start_unfit _ _ _ _ (sym c.plan_in_bounds.en
 pub returns-then-executed-n : goal.returns-then-executed-n
 returns-then-executed-n c = short-executed _ _ _ _ (plan_right (goal.at.returns-then-executed-n c).Else-not-plan_in_bounds) c.if-executed-n.true
 
-pub returns-then-marks-n : goal.returns-then-marks-n
-returns-then-marks-n c = short_marks _ _ _ _ (plan_right (goal.at.returns-then-marks-n c).Else-not-plan_in_bounds) (omega arith) (omega arith)
+pub returns-then-short : goal.returns-then-short
+returns-then-short c = short_marks _ _ _ _ (plan_right (goal.at.returns-then-short c).Else-not-plan_in_bounds) (omega arith) (omega arith)
 
 pub returns-then-finish-n : goal.returns-then-finish-n
 returns-then-finish-n c = short-finish _ _ _ _ (plan_right (goal.at.returns-then-finish-n c).Else-not-plan_in_bounds) (omega arith) (omega arith) (omega arith)

@@ -13,8 +13,8 @@ judged c = sym c.in_bounds.ensures ∙ c.if-not-in_bounds.false
 pub returns-then-not-in_bounds : goal.returns-then-not-in_bounds
 returns-then-not-in_bounds c = unfit _ _ (sym c.in_bounds.ensures ∙ c.if-not-in_bounds.true)
 
-pub returns-then-tick-ge10000000 : goal.returns-then-tick-ge10000000
-returns-then-tick-ge10000000 c = too_late _ _ (judged (goal.at.returns-then-tick-ge10000000 c).Else-not-in_bounds) c.if-tick-ge10000000.true
+pub returns-then-last : goal.returns-then-last
+returns-then-last c = too_late _ _ (judged (goal.at.returns-then-last c).Else-not-in_bounds) c.if-last.true
 
 pub all_finished-requires : goal.all_finished-requires
 all_finished-requires c = let a = c.args in
