@@ -13,6 +13,6 @@ returns-in-Refused c = let e = not-read c.args.text.now _ _ _ refl refl refl _ _
     (rw (refusal_printed _ _ e) c.put_refusal.ensures.0, c.put_refusal.ensures.1)
 
 pub returns-in-Counts : goal.returns-in-Counts
-returns-in-Counts c = let k = (known (goal.at.returns-in-Counts c).In-Counts) in
+returns-in-Counts c = let k = known (goal.at.returns-in-Counts c).In-Counts in
     let o = c.print_table.ensures in
     (rw (table-printed _ _ k.read) (rw (k.jobs_front, k.arcs_front, k.sections_front) at o.0), o.1)

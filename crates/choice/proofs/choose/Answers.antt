@@ -42,20 +42,22 @@ may c = let a = c.args in
 
 pub returns-then-started : goal.returns-then-started
 unfolding started
-returns-then-started c = ((in_table (goal.at.returns-then-started c).In-At), sym (chosen_resumes _ _ _ (at_job (goal.at.returns-then-started c).In-At) (lt-ltb _ _ c.if-started.true)))
+returns-then-started c = let here = goal.at.returns-then-started c in
+    ((in_table here.In-At), sym (chosen_resumes _ _ _ (at_job here.In-At) (lt-ltb _ _ c.if-started.true)))
 
 pub returns-then-may_start : goal.returns-then-may_start
 unfolding started
-returns-then-may_start c = ((in_table (goal.at.returns-then-may_start c).In-At), sym (chosen-starts _ _ _ (at_job (goal.at.returns-then-may_start c).In-At) (le-ltb _ _ c.if-started.false) (sym (may (goal.at.returns-then-may_start c).After-may_start) ∙ c.if-may_start.true)))
+returns-then-may_start c = let here = goal.at.returns-then-may_start c in
+    ((in_table here.In-At), sym (chosen-starts _ _ _ (at_job here.In-At) (le-ltb _ _ c.if-started.false) (sym (may here.After-may_start) ∙ c.if-may_start.true)))
 
 pub returns-in-Nothing : goal.returns-in-Nothing
 returns-in-Nothing c = (c.first_job-first.ensures.0, rw c.in-Nothing.is (sym (chosen_idle _ _ (sym (found (goal.at.returns-in-Nothing c).After-first_job-first) ∙ ap as_option c.in-Nothing.is))))
 
 pub returns-else-may_start : goal.returns-else-may_start
 unfolding started comes_before candidate pending
-returns-else-may_start c = (
+returns-else-may_start c = let here = goal.at.returns-else-may_start c in (
   c.first_job.ensures.0,
   c.first_job.ensures.1
       ∙ first-started-is (plan c.args.jobs.now [] c.args.sections.now c.args.times.now) (at c.args.tick c.args.executed.now) _ (omega arith)
-      ∙ sym (chosen_detains _ _ _ (at_job (goal.at.returns-else-may_start c).In-At) (le-ltb _ _ c.if-started.false) (sym (may (goal.at.returns-else-may_start c).After-may_start) ∙ c.if-may_start.false)),
+      ∙ sym (chosen_detains _ _ _ (at_job here.In-At) (le-ltb _ _ c.if-started.false) (sym (may here.After-may_start) ∙ c.if-may_start.false)),
 )

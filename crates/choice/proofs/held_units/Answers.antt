@@ -12,9 +12,17 @@ pub loop-s-init : goal.loop-s-init
 loop-s-init c = (omega arith, held_start _ _)
 
 pub overflow_add-units : goal.overflow_add-units
-overflow_add-units c = let h = (named (goal.at.overflow_add-units c).In-loop-s) in
+overflow_add-units c = let h = named (goal.at.overflow_add-units c).In-loop-s in
     omega (arith, held_few _ _ c.loop-s.invariant.1 c.entry-q.result (omega arith))
 
 pub loop-s-preserved : goal.loop-s-preserved
 unfolding pending
-loop-s-preserved c = elim c.if-is_held.branch [ then-is_held w ↦ (omega arith, rw (w.units-is, w.entry-q.ensures) (held_more _ _ c.loop-s.invariant.1 (sym c.is_held.ensures ∙ w.if-is_held.true) (named (goal.at.loop-s-preserved c).In-loop-s))) | else-is_held w ↦ (omega arith, rw w.units-is (held_skip _ _ c.loop-s.invariant.1 (sym c.is_held.ensures ∙ w.if-is_held.false))) ]
+loop-s-preserved c = let h = c.loop-s.invariant.1 in
+    let there = named (goal.at.loop-s-preserved c).In-loop-s in
+    elim c.if-is_held.branch [
+      | then-is_held w ↦ (
+        omega arith,
+        rw (w.units-is, w.entry-q.ensures) (held_more _ _ h (sym c.is_held.ensures ∙ w.if-is_held.true) there),
+      )
+      | else-is_held w ↦ (omega arith, rw w.units-is (held_skip _ _ h (sym c.is_held.ensures ∙ w.if-is_held.false)))
+    ]

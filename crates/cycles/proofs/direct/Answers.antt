@@ -6,8 +6,7 @@ pub loop-a-init : goal.loop-a-init
 loop-a-init c = (omega arith, upto_none _)
 
 pub loop-a-preserved : goal.loop-a-preserved
-loop-a-preserved c = (
-  omega arith,
-  rw c.with.ensures
-      (upto_more _ _ _ _ _ (let ends : (c.wide-before.result < 64) × (c.wide-after.result < 64) = let h = c.requires c.loop-a.a (omega arith) in (omega arith, omega arith) in ends).0 c.wide-before.ensures c.wide-after.ensures c.loop-a.invariant.1),
-)
+loop-a-preserved c =
+    let h = c.requires c.loop-a.a (omega arith) in
+    let below : c.wide-before.result < 64 = omega arith in
+    (omega arith, rw c.with.ensures (upto_more _ _ _ _ _ below c.wide-before.ensures c.wide-after.ensures c.loop-a.invariant.1))

@@ -18,20 +18,21 @@ bounded c = let a = c.args in
 
 pub returns-then-not-plan_in_bounds : goal.returns-then-not-plan_in_bounds
 returns-then-not-plan_in_bounds c = let a = c.args in
-    answers_bounds a.jobs.now a.arcs.now a.sections.now a.times.now c.plan_in_bounds.ensures (c.if-not-plan_in_bounds.true)
+    answers_bounds a.jobs.now a.arcs.now a.sections.now a.times.now c.plan_in_bounds.ensures c.if-not-plan_in_bounds.true
 
 pub multiple-common-requires : goal.multiple-common-requires
 multiple-common-requires c = (bounded (goal.at.multiple-common-requires c).Else-not-plan_in_bounds).0.spans
 
 pub judge-requires : goal.judge-requires
-judge-requires c = (((bounded (goal.at.judge-requires c).Else-not-plan_in_bounds)).0, (bounded (goal.at.judge-requires c).Else-not-plan_in_bounds).1, omega (arith, told-within _ _ _ c.multiple-common.ensures c.in-Of.is))
+judge-requires c = let here = goal.at.judge-requires c in
+    (((bounded here.Else-not-plan_in_bounds)).0, (bounded here.Else-not-plan_in_bounds).1, omega (arith, told-within _ _ _ c.multiple-common.ensures c.in-Of.is))
 
 pub returns-in-Over : goal.returns-in-Over
 returns-in-Over c = let a = c.args in
     answers_multiple a.jobs.now a.arcs.now a.sections.now a.times.now c.plan_in_bounds.ensures
-    (c.if-not-plan_in_bounds.false) _ c.multiple-common.ensures c.in-Over.is
+    c.if-not-plan_in_bounds.false _ c.multiple-common.ensures c.in-Over.is
 
 pub returns-in-Of : goal.returns-in-Of
 returns-in-Of c = let a = c.args in
     answers_place a.jobs.now a.arcs.now a.sections.now a.times.now c.plan_in_bounds.ensures
-    (c.if-not-plan_in_bounds.false) _ c.multiple-common.ensures _ _ c.in-Of.is c.judge.ensures
+    c.if-not-plan_in_bounds.false _ c.multiple-common.ensures _ _ c.in-Of.is c.judge.ensures

@@ -21,7 +21,8 @@ pub returns-then-not-in_bounds : goal.returns-then-not-in_bounds
 returns-then-not-in_bounds c = record { is = late_unfit _ _ _ (sym c.in_bounds.ensures ∙ c.if-not-in_bounds.true) }
 
 pub returns-then-executed-j : goal.returns-then-executed-j
-returns-then-executed-j c = record { is = late_nobody _ _ _ (judged (goal.at.returns-then-executed-j c).Else-not-in_bounds) (omega (arith, (fits (goal.at.returns-then-executed-j c).Else-not-in_bounds).lists.by_job)) }
+returns-then-executed-j c = let here = goal.at.returns-then-executed-j c in
+    record { is = late_nobody _ _ _ (judged here.Else-not-in_bounds) (omega (arith, (fits here.Else-not-in_bounds).lists.by_job)) }
 
 pub late_at-requires : goal.late_at-requires
 late_at-requires c = let a = c.args in
@@ -33,4 +34,5 @@ late_at-requires c = let a = c.args in
 
 pub returns : goal.returns
 unfolding lateness_in
-returns c = record { is = c.late_at.ensures ∙ late_known _ _ _ (judged (goal.at.returns c).Else-not-in_bounds) (omega (arith, (fits (goal.at.returns c).Else-not-in_bounds).lists.by_job)) }
+returns c = let here = goal.at.returns c in
+    record { is = c.late_at.ensures ∙ late_known _ _ _ (judged here.Else-not-in_bounds) (omega (arith, (fits here.Else-not-in_bounds).lists.by_job)) }

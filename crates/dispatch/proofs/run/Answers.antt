@@ -54,7 +54,7 @@ pub slice_bounds-run_on-end-6 : goal.slice_bounds-run_on-end-6
 slice_bounds-run_on-end-6 c = sym (length-take-le _ _ (roomy (goal.at.slice_bounds-run_on-end-6 c).In_default).3)
 
 pub run_on-end-requires : goal.run_on-end-requires
-run_on-end-requires c = let r = (roomy (goal.at.run_on-end-requires c).In_default) in
+run_on-end-requires c = let r = roomy (goal.at.run_on-end-requires c).In_default in
     (plan_fit _ _ _ _ 0 _ _ _ r.0 (length-take-le _ _ r.1) (length-take-le _ _ r.2) (length-take-le _ _ r.3), bounded _ _ _ _ r.0)
 
 pub returns : goal.returns

@@ -34,7 +34,7 @@ pub returns-in-Wrong : goal.returns-in-Wrong
 returns-in-Wrong c = record { is = step-refused _ _ _ c.in-Wrong.refusal (sym c.judge_step-judged.ensures ∙ ap as_fault c.in-Wrong.is) }
 
 pub one_tick-found-requires : goal.one_tick-found-requires
-one_tick-found-requires c = let f = (fits (goal.at.one_tick-found-requires c).In_default) in (f.0, f.1)
+one_tick-found-requires c = let f = fits (goal.at.one_tick-found-requires c).In_default in (f.0, f.1)
 
 pub overflow_add-result : goal.overflow_add-result
 overflow_add-result c = omega (arith, (fits (goal.at.overflow_add-result c).In_default).1)
@@ -43,7 +43,8 @@ pub overflow_add-result-in-At : goal.overflow_add-result-in-At
 overflow_add-result-in-At c = omega (arith, (fits (goal.at.overflow_add-result-in-At c).In_default).1)
 
 pub overflow_cast-result : goal.overflow_cast-result
-overflow_cast-result c = omega (arith, (fits (goal.at.overflow_cast-result c).In_default).0.few_jobs, (in_table (goal.at.overflow_cast-result c).In-At))
+overflow_cast-result c = let here = goal.at.overflow_cast-result c in
+    omega (arith, (fits here.In_default).0.few_jobs, (in_table here.In-At))
 
 pub returns-in-Nothing : goal.returns-in-Nothing
 returns-in-Nothing c = record { is = step_idle _ _ _ _ _ (taken (goal.at.returns-in-Nothing c).In_default) c.one_tick-found.ensures.1 (ap as_option c.in-Nothing.is) }

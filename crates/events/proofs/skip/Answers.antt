@@ -70,6 +70,7 @@ returns-else-all_finished c = later
 
 pub returns-in-At : goal.returns-in-At
 unfolding advance_by ticks_free
-returns-in-At c = let at = (goal.at.returns-in-At c).In-At in
+returns-in-At c = let here = goal.at.returns-in-At c in
+    let at = here.In-At in
     later
-    (skips_run _ _ _ c.requires.1 (pairs (goal.at.returns-in-At c).Start) _ (runs at) _ c.ticks_free-ticks.ensures (in_table at) _ c.give_ticks.ensures)
+    (skips_run _ _ _ c.requires.1 (pairs here.Start) _ (runs at) _ c.ticks_free-ticks.ensures (in_table at) _ c.give_ticks.ensures)

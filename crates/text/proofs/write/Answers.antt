@@ -27,16 +27,19 @@ returns-then-not-right_length-2 c = let a = c.args in
     (sym c.right_length-2.ensures ∙ c.if-not-right_length-2.true)
 
 pub returns-then-not-right_length-3 : goal.returns-then-not-right_length-3
-returns-then-not-right_length-3 c = let a = c.args in
-    no_sections a.jobs.now a.arcs.now a.sections.now a.out.now (jobs_right (goal.at.returns-then-not-right_length-3 c).Else-not-right_length) (arcs_right (goal.at.returns-then-not-right_length-3 c).Else-not-right_length-2)
+returns-then-not-right_length-3 c = let here = goal.at.returns-then-not-right_length-3 c in
+    let a = c.args in
+    no_sections a.jobs.now a.arcs.now a.sections.now a.out.now (jobs_right here.Else-not-right_length) (arcs_right here.Else-not-right_length-2)
     (sym c.right_length-3.ensures ∙ c.if-not-right_length-3.true)
 
 pub returns-then-out-needed : goal.returns-then-out-needed
-returns-then-out-needed c = let a = c.args in
-    no_room a.jobs.now a.arcs.now a.sections.now a.out.now (jobs_right (goal.at.returns-then-out-needed c).Else-not-right_length) (arcs_right (goal.at.returns-then-out-needed c).Else-not-right_length-2) (sections_right (goal.at.returns-then-out-needed c).Else-not-right_length-3)
+returns-then-out-needed c = let here = goal.at.returns-then-out-needed c in
+    let a = c.args in
+    no_room a.jobs.now a.arcs.now a.sections.now a.out.now (jobs_right here.Else-not-right_length) (arcs_right here.Else-not-right_length-2) (sections_right here.Else-not-right_length-3)
     c.text_length-needed.ensures c.if-out-needed.true
 
 pub returns : goal.returns
-returns c = let a = c.args in
-    writes a.jobs.now a.arcs.now a.sections.now a.out.now (jobs_right (goal.at.returns c).Else-not-right_length) (arcs_right (goal.at.returns c).Else-not-right_length-2) (sections_right (goal.at.returns c).Else-not-right_length-3)
+returns c = let here = goal.at.returns c in
+    let a = c.args in
+    writes a.jobs.now a.arcs.now a.sections.now a.out.now (jobs_right here.Else-not-right_length) (arcs_right here.Else-not-right_length-2) (sections_right here.Else-not-right_length-3)
     c.text_length-needed.ensures c.if-out-needed.false c.put_text.ensures

@@ -42,4 +42,5 @@ returns-in-Nothing c = let w = c.choose-ran.ensures in
 
 pub returns-in-At : goal.returns-in-At
 unfolding advance_by
-returns-in-At c = ((in_table (goal.at.returns-in-At c).In-At), record { who = sym (runs (goal.at.returns-in-At c).In-At); becomes = c.give_ticks.ensures ∙ advance-one _ _ _ _ ∙ tick_runs _ _ _ _ (runs (goal.at.returns-in-At c).In-At) })
+returns-in-At c = let here = goal.at.returns-in-At c in
+    ((in_table here.In-At), record { who = sym (runs here.In-At); becomes = c.give_ticks.ensures ∙ advance-one _ _ _ _ ∙ tick_runs _ _ _ _ (runs here.In-At) })

@@ -11,7 +11,7 @@ overflow_sub-ones c = omega (arith, low _ (sym c.is_digit-in-loop-i.ensures ∙ 
 
 pub loop-i-preserved : goal.loop-i-preserved
 loop-i-preserved c = let inv = c.loop-i.invariant in
-    let h : c.loop-i.i + 1 < length (c.args.digits.now) = omega arith in
+    let h : c.loop-i.i + 1 < length c.args.digits.now = omega arith in
     let s : c.loop-i.i ≤ 7 = omega arith in
     rw (c.wide.ensures, c.wide-in-loop-i.ensures) (
       omega arith,

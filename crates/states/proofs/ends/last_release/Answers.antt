@@ -9,6 +9,9 @@ unfolding largest
 loop-j-init c = (omega arith, omega arith, refl)
 
 pub loop-j-preserved : goal.loop-j-preserved
-loop-j-preserved c = let a = c.args in
-    let b = c.requires.1 c.loop-j.j (omega arith) in
-    elim c.if-last-times.branch [ then-last-times w ↦ (omega arith, omega (arith, w), rw largest_more (omega (arith, w, c.loop-j.invariant.2))) | else-last-times w ↦ (omega arith, omega (arith, w), rw largest_more (omega (arith, w, c.loop-j.invariant.2))) ]
+loop-j-preserved c = let b = c.requires.1 c.loop-j.j (omega arith) in
+    let i = c.loop-j.invariant.2 in
+    elim c.if-last-times.branch [
+      | then-last-times w ↦ (omega arith, omega (arith, w), rw largest_more (omega (arith, w, i)))
+      | else-last-times w ↦ (omega arith, omega (arith, w), rw largest_more (omega (arith, w, i)))
+    ]

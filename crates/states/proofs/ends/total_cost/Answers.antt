@@ -13,5 +13,5 @@ unfolding sum
 loop-j-init c = (omega arith, omega arith, omega arith, refl)
 
 pub loop-j-preserved : goal.loop-j-preserved
-loop-j-preserved c = let h = (priced (goal.at.loop-j-preserved c).In-loop-j) in
+loop-j-preserved c = let h = priced (goal.at.loop-j-preserved c).In-loop-j in
     (omega arith, omega arith, omega arith, rw sum_more (omega (arith, c.loop-j.invariant.3)))

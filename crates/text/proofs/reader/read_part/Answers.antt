@@ -30,6 +30,7 @@ returns-in-Stopped c = let a = c.args in
     (line_at a.text.now a.from h.result c.line_value-found.ensures c.in-Stopped.is)
 
 pub returns-else-not-right : goal.returns-else-not-right
-returns-else-not-right c = let a = c.args in
-    rw (part_rows (part_of a.part) c.head.ensures.0 a.text.now a.from a.line (count (goal.at.returns-else-not-right c).In-Value) (right (goal.at.returns-else-not-right c).Else-not-right))
+returns-else-not-right c = let here = goal.at.returns-else-not-right c in
+    let a = c.args in
+    rw (part_rows (part_of a.part) c.head.ensures.0 a.text.now a.from a.line (count here.In-Value) (right here.Else-not-right))
     c.read_rows.ensures
