@@ -1,13 +1,9 @@
 #![tactic(auto)]
-// The answers of the C interface: first the refusal's number, 0 for none, and its place; then the entry's values, which are 0 where
-// it is refused.
-ghost use Rattle.std.specs.Prelude.{◌≡◌};
-ghost use Rattle.c_answers.specs.Answers.{counts_of, length_of, count_of, tick_of, stepped_of, late_of, verdict_of};
-
-use density::Verdict;
-use dispatch::{Late, Ran, Reached, Stepped};
-use plan::Planned;
-use text::{Reading, Writing};
+// The answers of the C interface, made from those of the entries: first the refusal's number, 0 for none, and its place; then the
+// entry's values, which are 0 where it is refused. Flags are numbers and the values stand beside them, as C has no enum with values.
+use dispatch::Stepped;
+use rules::Refusal;
+use text::Counts;
 
 // How many jobs, arcs and sections were read.
 #[repr(C)]
@@ -79,164 +75,194 @@ pub struct ZubVerdict {
 }
 
 // What `read` answers.
-pub fn counts_of(reading: Reading) -> ZubCounts
-    ensures { result ≡ counts_of reading }
-{
-    match reading {
-        Reading::Refused(f) => ZubCounts {
-            refusal: f.number(),
-            place: f.place(),
-            jobs: 0,
-            arcs: 0,
-            sections: 0,
-        },
-        Reading::Counts {
-            jobs,
-            arcs,
-            sections,
-        } => ZubCounts {
-            refusal: 0,
-            place: 0,
-            jobs,
-            arcs,
-            sections,
-        },
+impl From<Result<Counts, Refusal>> for ZubCounts {
+    ghost use Rattle.std.specs.Prelude.{◌≡◌};
+    ghost use Rattle.c_answers.specs.Answers.{counts_of};
+
+    ghost from_gives = { λ read c. c ≡ counts_of read };
+
+    fn from(read: Result<Counts, Refusal>) -> ZubCounts {
+        match read {
+            Ok(counts) => ZubCounts {
+                refusal: 0,
+                place: 0,
+                jobs: counts.jobs,
+                arcs: counts.arcs,
+                sections: counts.sections,
+            },
+            Err(f) => ZubCounts {
+                refusal: f.number(),
+                place: f.place(),
+                jobs: 0,
+                arcs: 0,
+                sections: 0,
+            },
+        }
     }
 }
 
 // What `write` and `answer` answer.
-pub fn length_of(writing: Writing) -> ZubLength
-    ensures { result ≡ length_of writing }
-{
-    match writing {
-        Writing::Refused(f) => ZubLength {
-            refusal: f.number(),
-            place: f.place(),
-            bytes: 0,
-        },
-        Writing::Bytes(bytes) => ZubLength {
-            refusal: 0,
-            place: 0,
-            bytes,
-        },
+impl From<Result<usize, Refusal>> for ZubLength {
+    ghost use Rattle.std.specs.Prelude.{◌≡◌};
+    ghost use Rattle.c_answers.specs.Answers.{length_of};
+
+    ghost from_gives = { λ written c. c ≡ length_of written };
+
+    fn from(written: Result<usize, Refusal>) -> ZubLength {
+        match written {
+            Ok(bytes) => ZubLength {
+                refusal: 0,
+                place: 0,
+                bytes,
+            },
+            Err(f) => ZubLength {
+                refusal: f.number(),
+                place: f.place(),
+                bytes: 0,
+            },
+        }
     }
 }
 
 // What `plan` answers.
-pub fn count_of(planned: Planned) -> ZubCount
-    ensures { result ≡ count_of planned }
-{
-    match planned {
-        Planned::Refused(f) => ZubCount {
-            refusal: f.number(),
-            place: f.place(),
-            times: 0,
-        },
-        Planned::Times(times) => ZubCount {
-            refusal: 0,
-            place: 0,
-            times,
-        },
+impl From<Result<u32, Refusal>> for ZubCount {
+    ghost use Rattle.std.specs.Prelude.{◌≡◌};
+    ghost use Rattle.c_answers.specs.Answers.{count_of};
+
+    ghost from_gives = { λ planned c. c ≡ count_of planned };
+
+    fn from(planned: Result<u32, Refusal>) -> ZubCount {
+        match planned {
+            Ok(times) => ZubCount {
+                refusal: 0,
+                place: 0,
+                times,
+            },
+            Err(f) => ZubCount {
+                refusal: f.number(),
+                place: f.place(),
+                times: 0,
+            },
+        }
     }
 }
 
 // What `start` and `run` answer.
-pub fn tick_of(reached: Reached) -> ZubTick
-    ensures { result ≡ tick_of reached }
-{
-    match reached {
-        Reached::Refused(f) => ZubTick {
-            refusal: f.number(),
-            place: f.place(),
-            tick: 0,
-        },
-        Reached::Tick(tick) => ZubTick {
-            refusal: 0,
-            place: 0,
-            tick,
-        },
+impl From<Result<u32, Refusal>> for ZubTick {
+    ghost use Rattle.std.specs.Prelude.{◌≡◌};
+    ghost use Rattle.c_answers.specs.Answers.{tick_of};
+
+    ghost from_gives = { λ reached c. c ≡ tick_of reached };
+
+    fn from(reached: Result<u32, Refusal>) -> ZubTick {
+        match reached {
+            Ok(tick) => ZubTick {
+                refusal: 0,
+                place: 0,
+                tick,
+            },
+            Err(f) => ZubTick {
+                refusal: f.number(),
+                place: f.place(),
+                tick: 0,
+            },
+        }
     }
 }
 
 // What `step` answers. Where it is refused, the tick is the one handed in.
-pub fn stepped_of(stepped: Stepped) -> ZubStepped
-    ensures { result ≡ stepped_of stepped }
-{
-    let tick = stepped.tick;
-    let ran = stepped.ran;
-    match ran {
-        Ran::Refused(f) => ZubStepped {
-            refusal: f.number(),
-            place: f.place(),
-            tick,
-            ran: 0,
-            job: 0,
-        },
-        Ran::Idle => ZubStepped {
-            refusal: 0,
-            place: 0,
-            tick,
-            ran: 0,
-            job: 0,
-        },
-        Ran::Job(job) => ZubStepped {
-            refusal: 0,
-            place: 0,
-            tick,
-            ran: 1,
-            job,
-        },
+impl From<Stepped> for ZubStepped {
+    ghost use Rattle.std.specs.Prelude.{◌≡◌};
+    ghost use Rattle.c_answers.specs.Answers.{stepped_of};
+
+    ghost from_gives = { λ stepped c. c ≡ stepped_of stepped };
+
+    fn from(stepped: Stepped) -> ZubStepped {
+        let tick = stepped.tick;
+        match stepped.ran {
+            Ok(Some(job)) => ZubStepped {
+                refusal: 0,
+                place: 0,
+                tick,
+                ran: 1,
+                job,
+            },
+            Ok(None) => ZubStepped {
+                refusal: 0,
+                place: 0,
+                tick,
+                ran: 0,
+                job: 0,
+            },
+            Err(f) => ZubStepped {
+                refusal: f.number(),
+                place: f.place(),
+                tick,
+                ran: 0,
+                job: 0,
+            },
+        }
     }
 }
 
 // What `lateness` answers.
-pub fn late_of(late: Late) -> ZubLate
-    ensures { result ≡ late_of late }
-{
-    match late {
-        Late::Refused(f) => ZubLate {
-            refusal: f.number(),
-            place: f.place(),
-            finished: 0,
-            lateness: 0,
-        },
-        Late::Unfinished => ZubLate {
-            refusal: 0,
-            place: 0,
-            finished: 0,
-            lateness: 0,
-        },
-        Late::By(lateness) => ZubLate {
-            refusal: 0,
-            place: 0,
-            finished: 1,
-            lateness,
-        },
+impl From<Result<Option<i32>, Refusal>> for ZubLate {
+    ghost use Rattle.std.specs.Prelude.{◌≡◌};
+    ghost use Rattle.c_answers.specs.Answers.{late_of};
+
+    ghost from_gives = { λ late c. c ≡ late_of late };
+
+    fn from(late: Result<Option<i32>, Refusal>) -> ZubLate {
+        match late {
+            Ok(Some(lateness)) => ZubLate {
+                refusal: 0,
+                place: 0,
+                finished: 1,
+                lateness,
+            },
+            Ok(None) => ZubLate {
+                refusal: 0,
+                place: 0,
+                finished: 0,
+                lateness: 0,
+            },
+            Err(f) => ZubLate {
+                refusal: f.number(),
+                place: f.place(),
+                finished: 0,
+                lateness: 0,
+            },
+        }
     }
 }
 
 // What the density test answers.
-pub fn verdict_of(verdict: Verdict) -> ZubVerdict
-    ensures { result ≡ verdict_of verdict }
-{
-    match verdict {
-        Verdict::Refused(f) => ZubVerdict {
-            refusal: f.number(),
-            place: f.place(),
-            yes: 0,
-            failing: 0,
-        },
-        Verdict::Yes => ZubVerdict {
-            refusal: 0,
-            place: 0,
-            yes: 1,
-            failing: 0,
-        },
-        Verdict::No(failing) => ZubVerdict {
-            refusal: 0,
-            place: 0,
-            yes: 0,
-            failing,
-        },
+impl From<Result<Option<u32>, Refusal>> for ZubVerdict {
+    ghost use Rattle.std.specs.Prelude.{◌≡◌};
+    ghost use Rattle.c_answers.specs.Answers.{verdict_of};
+
+    ghost from_gives = { λ verdict c. c ≡ verdict_of verdict };
+
+    fn from(verdict: Result<Option<u32>, Refusal>) -> ZubVerdict {
+        match verdict {
+            Ok(None) => ZubVerdict {
+                refusal: 0,
+                place: 0,
+                yes: 1,
+                failing: 0,
+            },
+            Ok(Some(failing)) => ZubVerdict {
+                refusal: 0,
+                place: 0,
+                yes: 0,
+                failing,
+            },
+            Err(f) => ZubVerdict {
+                refusal: f.number(),
+                place: f.place(),
+                yes: 0,
+                failing: 0,
+            },
+        }
     }
 }

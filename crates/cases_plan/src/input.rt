@@ -1,20 +1,6 @@
 // Numbers and lists out of a text.
 ghost use Rattle.std.specs.Prelude.{◌≡◌, ◌≤◌, length};
 
-// What was read, and where to read on.
-#[derive(Clone, Copy)]
-pub struct Read {
-    pub value: u32,
-    pub next: usize,
-}
-
-// How many numbers of a list were read, and where to read on.
-#[derive(Clone, Copy)]
-pub struct Filled {
-    pub length: usize,
-    pub next: usize,
-}
-
 // Places for a list to be read into or lent, each with a number by which it can be seen what was written.
 pub fn places() -> [u32; 600]
     ensures { 600 ≡ length result }
@@ -22,81 +8,52 @@ pub fn places() -> [u32; 600]
     [7; 600]
 }
 
-// A count, cut at `most`.
-pub fn at_most(x: u32, most: usize) -> usize
-    ensures { result ≤ most }
-{
-    let n = x as usize;
-    if n < most { n } else { most }
+// The numbers of a text, one after the other, parted by whatever is no digit.
+#[derive(Drop)]
+pub struct Numbers<'a> {
+    rest: &'a [u8],
 }
 
-// What a digit stands for; 10 for any other byte.
-fn digit(b: u8) -> u64
-    ensures { result ≤ 10 }
-{
-    if b < 48 {
-        return 10;
+impl<'a> Numbers<'a> {
+    pub fn new(text: &'a [u8]) -> Numbers<'a> {
+        Numbers { rest: text }
     }
-    if b > 57 {
-        return 10;
-    }
-    (b as u64) - 48
-}
 
-// The first digit from `at` on, or the end.
-fn skip(text: &[u8], at: usize) -> usize {
-    let mut i = at;
-    while i < text.len() {
-        if digit(text[i]) < 10 {
-            return i;
+    // The next number, or 0 where there is none.
+    pub fn next(&mut self) -> u32 {
+        let text = self.rest;
+        let start = text
+            .iter()
+            .position(u8::is_ascii_digit)
+            .unwrap_or(text.len());
+        let text = &text[start..];
+        let end = text
+            .iter()
+            .position(|b| !b.is_ascii_digit())
+            .unwrap_or(text.len());
+        let mut value = 0u64;
+        for b in &text[..end] {
+            value = (value % 1000000000) * 10 + u64::from(b.wrapping_sub(48));
         }
-        i += 1;
+        self.rest = &text[end..];
+        (value % 4294967296) as u32
     }
-    i
-}
 
-// The number from the first digit on.
-pub fn number(text: &[u8], at: usize) -> Read {
-    let mut i = skip(text, at);
-    let mut value = 0u64;
-    while i < text.len() {
-        let d = digit(text[i]);
-        if d > 9 {
-            break;
+    // The next number, cut at `most`.
+    pub fn at_most(&mut self, most: usize) -> usize
+        ensures { result ≤ most }
+    {
+        most.min(self.next() as usize)
+    }
+
+    // A list: how many numbers it has, and these.
+    pub fn list(&mut self, list: &mut [u32]) -> usize
+        ensures { result ≤ length list.new }
+    {
+        let n = self.at_most(list.len());
+        for x in &mut list[..n] {
+            *x = self.next();
         }
-        value = (value % 1000000000) * 10 + d;
-        i += 1;
-    }
-    Read {
-        value: (value % 4294967296) as u32,
-        next: i,
-    }
-}
-
-// A list: how many numbers it has, and these.
-pub fn list(text: &[u8], at: usize, list: &mut [u32]) -> Filled
-    ensures { result.length ≤ length list.new }
-{
-    let count = number(text, at);
-    let n = at_most(count.value, list.len());
-    let mut next = count.next;
-    let mut k = 0;
-    while k < n {
-        let x = number(text, next);
-        next = x.next;
-        list[k] = x.value;
-        k += 1;
-    }
-    Filled { length: n, next }
-}
-
-// How many of so many places are lent.
-pub fn lent(text: &[u8], at: usize, most: usize) -> Filled
-    ensures { result.length ≤ most }
-{
-    let count = number(text, at);
-    Filled {
-        length: at_most(count.value, most),
-        next: count.next,
+        n
     }
 }

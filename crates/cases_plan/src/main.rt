@@ -8,13 +8,14 @@ mod output;
 
 ghost use Rattle.std.specs.Prelude.{◌≤◌, length};
 
-use density::Verdict;
-use input::Filled;
-use plan::Planned;
+use input::Numbers;
+use rules::Refusal;
+use rules::plan::Plan;
+use rules::table::Table;
 use std::io;
-use std::io::Stdout;
+use std::io::{Stdout, Write};
 
-// Which entry a case is for.
+// Which entry a case is for: it tells both how the times are read and what is asked, so a closure would not do alone.
 #[derive(Clone, Copy)]
 enum Asked {
     Plan,
@@ -23,14 +24,8 @@ enum Asked {
 }
 
 // Whether the plan is found within its bounds.
-fn bounds(
-    out: &mut Stdout,
-    jobs: &[u32],
-    arcs: &[u32],
-    sections: &[u32],
-    times: &[u32],
-) -> io::Result<()> {
-    if plan::plan_in_bounds(jobs, arcs, sections, times) {
+fn bounds(out: &mut Stdout, plan: &Plan) -> io::Result<()> {
+    if plan::plan_in_bounds(plan) {
         output::say(out, b": within\n")
     } else {
         output::say(out, b": outside\n")
@@ -38,112 +33,82 @@ fn bounds(
 }
 
 // What `plan` answers, what it left of the lent list, and whether the times that it gives are within their bounds.
-fn planned(
-    out: &mut Stdout,
-    jobs: &[u32],
-    arcs: &[u32],
-    sections: &[u32],
-    times: &mut [u32],
-) -> io::Result<()> {
-    let planned = plan::plan(jobs, arcs, sections, times);
-    match planned {
-        Planned::Refused(refusal) => {
+fn planned(out: &mut Stdout, table: Table, times: &mut [u32]) -> io::Result<()> {
+    match plan::plan(&table, times) {
+        Err(refusal) => {
             output::refused(out, refusal)?;
             output::kept(out, times)?;
             output::say(out, b"\n")
         }
-        Planned::Times(n) => {
-            let front = input::at_most(n, times.len());
+        Ok(n) => {
+            let front = times.len().min(n as usize);
             output::say(out, b": times")?;
             output::pairs(out, &times[..front])?;
             output::kept(out, &times[front..])?;
-            bounds(out, jobs, arcs, sections, &times[..front])
+            bounds(out, &Plan::new(table, &times[..front]))
         }
     }
 }
 
 // What the density test answers.
-fn tested(out: &mut Stdout, verdict: Verdict) -> io::Result<()> {
-    match verdict {
-        Verdict::Yes => output::say(out, b": yes")?,
-        Verdict::No(place) => output::count(out, b": no, place ", place)?,
-        Verdict::Refused(refusal) => output::refused(out, refusal)?,
+fn tested(out: &mut Stdout, answer: Result<Option<u32>, Refusal>) -> io::Result<()> {
+    match answer {
+        Ok(None) => output::say(out, b": yes")?,
+        Ok(Some(place)) => write!(out, ": no, place {place}")?,
+        Err(refusal) => output::refused(out, refusal)?,
     }
     output::say(out, b"\n")
 }
 
 // The answer to a case.
-fn answer(
-    out: &mut Stdout,
-    asked: Asked,
-    jobs: &[u32],
-    arcs: &[u32],
-    sections: &[u32],
-    times: &mut [u32],
-) -> io::Result<()> {
+fn answer(out: &mut Stdout, asked: Asked, table: Table, times: &mut [u32]) -> io::Result<()> {
     match asked {
-        Asked::Plan => planned(out, jobs, arcs, sections, times),
-        Asked::Bounds => bounds(out, jobs, arcs, sections, times),
-        Asked::Density => tested(out, density::density(jobs, arcs, sections, times)),
+        Asked::Plan => planned(out, table, times),
+        Asked::Bounds => bounds(out, &Plan::new(table, times)),
+        Asked::Density => tested(out, density::density(&Plan::new(table, times))),
     }
 }
 
 // The times of a case: for `plan` how many of the places are lent, else a list.
-fn times_of(text: &[u8], at: usize, asked: Asked, list: &mut [u32]) -> Filled
-    ensures { result.length ≤ length list.new }
+fn times_of(numbers: &mut Numbers, asked: Asked, list: &mut [u32]) -> usize
+    ensures { result ≤ length list.new }
 {
-    if let Asked::Plan = asked {
-        return input::lent(text, at, list.len());
+    match asked {
+        Asked::Plan => numbers.at_most(list.len()),
+        Asked::Bounds | Asked::Density => numbers.list(list),
     }
-    input::list(text, at, list)
 }
 
-// The case that starts at `at`: its number and its answer. What is returned is where the next one starts.
-fn case(out: &mut Stdout, text: &[u8], at: usize, asked: Asked) -> io::Result<usize> {
+// The next case: its number and its answer.
+fn case(out: &mut Stdout, numbers: &mut Numbers, asked: Asked) -> io::Result<()> {
     let mut jobs = input::places();
     let mut arcs = input::places();
     let mut sections = input::places();
     let mut times = input::places();
-    let label = input::number(text, at);
-    let j = input::list(text, label.next, &mut jobs);
-    let a = input::list(text, j.next, &mut arcs);
-    let s = input::list(text, a.next, &mut sections);
-    let t = times_of(text, s.next, asked, &mut times);
-    let nj = j.length;
-    let na = a.length;
-    let ns = s.length;
-    let nt = t.length;
-    output::count(out, b"", label.value)?;
-    answer(
-        out,
-        asked,
-        &jobs[..nj],
-        &arcs[..na],
-        &sections[..ns],
-        &mut times[..nt],
-    )?;
-    Ok(t.next)
+    let label = numbers.next();
+    let j = numbers.list(&mut jobs);
+    let a = numbers.list(&mut arcs);
+    let s = numbers.list(&mut sections);
+    let t = times_of(numbers, asked, &mut times);
+    write!(out, "{label}")?;
+    let table = Table::new(&jobs[..j], &arcs[..a], &sections[..s]);
+    answer(out, asked, table, &mut times[..t])
 }
 
-// The cases for one entry, from their count on; the answer is where they end.
-fn cases(out: &mut Stdout, text: &[u8], start: usize, asked: Asked) -> io::Result<usize> {
-    let first = input::number(text, start);
-    let count = first.value;
-    let mut at = first.next;
-    let mut k = 0;
-    while k < count {
-        at = case(out, text, at, asked)?;
-        k += 1;
+// The cases for one entry, from their count on.
+fn cases(out: &mut Stdout, numbers: &mut Numbers, asked: Asked) -> io::Result<()> {
+    for _ in 0..numbers.next() {
+        case(out, numbers, asked)?;
     }
-    Ok(at)
+    Ok(())
 }
 
 fn main(rt: HostRuntime) -> io::Result<()> {
     let mut text = [0u8; 65536];
     let n = reading::fill(&mut rt.stdin(), &mut text)?;
     let mut out = rt.stdout();
-    let planned = cases(&mut out, &text[..n], 0, Asked::Plan)?;
-    let judged = cases(&mut out, &text[..n], planned, Asked::Bounds)?;
-    cases(&mut out, &text[..n], judged, Asked::Density)?;
-    Ok(())
+    let mut numbers = Numbers::new(&text[..n]);
+    cases(&mut out, &mut numbers, Asked::Plan)?;
+    cases(&mut out, &mut numbers, Asked::Bounds)?;
+    cases(&mut out, &mut numbers, Asked::Density)
 }

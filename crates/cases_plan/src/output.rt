@@ -7,40 +7,26 @@ pub fn say(out: &mut Stdout, words: &[u8]) -> io::Result<()> {
     out.write_all(words)
 }
 
-// A word and a number.
-pub fn count(out: &mut Stdout, words: &[u8], x: u32) -> io::Result<()> {
-    say(out, words)?;
-    write!(out, "{x}")
-}
-
-// A refusal's number and place.
+// A refusal's number and place, in this program's form.
 pub fn refused(out: &mut Stdout, refusal: Refusal) -> io::Result<()> {
-    count(out, b": refusal ", refusal.number())?;
-    count(out, b" place ", refusal.place())
+    let number = refusal.number();
+    let place = refusal.place();
+    write!(out, ": refusal {number} place {place}")
 }
 
 // How many of the numbers are still the 7 that the list was lent with.
 pub fn kept(out: &mut Stdout, rest: &[u32]) -> io::Result<()> {
-    let mut same = 0usize;
-    let mut i = 0;
-    while i < rest.len() {
-        if rest[i] == 7 {
-            same += 1;
-        }
-        i += 1;
-    }
-    write!(out, " kept {same} of {i}")
+    let same = rest.iter().filter(|x| **x == 7).count();
+    let all = rest.len();
+    write!(out, " kept {same} of {all}")
 }
 
 // The pairs of a list of times.
 pub fn pairs(out: &mut Stdout, times: &[u32]) -> io::Result<()> {
-    let n = times.len() / 2;
-    let mut j = 0;
-    while j < n {
-        count(out, b" (", times[2 * j])?;
-        count(out, b",", times[2 * j + 1])?;
-        say(out, b")")?;
-        j += 1;
+    for pair in times.chunks_exact(2) {
+        let release = pair[0];
+        let deadline = pair[1];
+        write!(out, " ({release},{deadline})")?;
     }
     Ok(())
 }

@@ -1,49 +1,30 @@
 #![tactic(auto)]
 // Reads the text of each file that its arguments name and prints, a line each, what `read` says; what was read is written
 // again, and the bytes are compared. Then the writer's refusals.
+use reading::front;
 use rules::Refusal;
+use rules::table::Table;
 use std::env::FillError;
 use std::io::{Stdout, Write};
 use std::rt::{Env, Files};
 use std::{fs, io};
-use text::{Reading, Writing};
+use text::Counts;
 
+// A refusal, in this program's form: each of the three that print one has its own, so none is a `Display`.
 fn print_refusal(out: &mut Stdout, r: Refusal) -> io::Result<()> {
     let number = r.number();
     let place = r.place();
     write!(out, " refusal={number} place={place}")
 }
 
-// The first n of a list, or all of them where it has fewer.
-fn front(list: &[u32], n: usize) -> &[u32] {
-    if list.len() < n {
-        return list;
-    }
-    &list[0..n]
-}
-
-fn front_bytes(bytes: &[u8], n: usize) -> &[u8] {
-    if bytes.len() < n {
-        return bytes;
-    }
-    &bytes[0..n]
-}
-
 // Writes a table that was read, into as many bytes as the longest text has, and compares.
-fn write_again(
-    out: &mut Stdout,
-    text: &[u8],
-    jobs: &[u32],
-    arcs: &[u32],
-    sections: &[u32],
-) -> io::Result<()> {
+fn write_again(out: &mut Stdout, text: &[u8], table: &Table) -> io::Result<()> {
     let mut bytes = [0u8; 20830];
-    let said = text::write(jobs, arcs, sections, &mut bytes);
-    match said {
-        Writing::Refused(r) => print_refusal(out, r),
-        Writing::Bytes(n) => {
+    match text::write(table, &mut bytes) {
+        Err(r) => print_refusal(out, r),
+        Ok(n) => {
             write!(out, " bytes={n}")?;
-            if text == front_bytes(&bytes, n) {
+            if text == front(&bytes, n) {
                 write!(out, " same")
             } else {
                 write!(out, " other")
@@ -57,19 +38,19 @@ fn read_text(out: &mut Stdout, text: &[u8]) -> io::Result<()> {
     let mut jobs = [0u32; 192];
     let mut arcs = [0u32; 512];
     let mut sections = [0u32; 512];
-    let said = text::read(text, &mut jobs, &mut arcs, &mut sections);
-    match said {
-        Reading::Refused(r) => print_refusal(out, r),
-        Reading::Counts {
-            jobs: j,
-            arcs: a,
-            sections: s,
-        } => {
+    match text::read(text, &mut jobs, &mut arcs, &mut sections) {
+        Err(r) => print_refusal(out, r),
+        Ok(counts) => {
+            let j = counts.jobs;
+            let a = counts.arcs;
+            let s = counts.sections;
             write!(out, " jobs={j} arcs={a} sections={s}")?;
-            let j = front(&jobs, 3 * j as usize);
-            let a = front(&arcs, 2 * a as usize);
-            let s = front(&sections, 4 * s as usize);
-            write_again(out, text, j, a, s)?;
+            let table = Table::new(
+                front(&jobs, 3 * j as usize),
+                front(&arcs, 2 * a as usize),
+                front(&sections, 4 * s as usize),
+            );
+            write_again(out, text, &table)?;
             read_short(out, text)
         }
     }
@@ -89,14 +70,10 @@ fn read_short(out: &mut Stdout, text: &[u8]) -> io::Result<()> {
     print_short(out, text::read(text, &mut jobs, &mut arcs, &mut three))
 }
 
-fn print_short(out: &mut Stdout, said: Reading) -> io::Result<()> {
+fn print_short(out: &mut Stdout, said: Result<Counts, Refusal>) -> io::Result<()> {
     match said {
-        Reading::Refused(r) => print_refusal(out, r),
-        Reading::Counts {
-            jobs: _,
-            arcs: _,
-            sections: _,
-        } => write!(out, " read"),
+        Err(r) => print_refusal(out, r),
+        Ok(_) => write!(out, " read"),
     }
 }
 
@@ -146,10 +123,10 @@ fn write_zeros(out: &mut Stdout, j: usize, a: usize, s: usize, bytes: &mut [u8])
     let sections = [0u32; 516];
     let room = bytes.len();
     write!(out, "write {j} {a} {s} into {room}")?;
-    let said = text::write(front(&jobs, j), front(&arcs, a), front(&sections, s), bytes);
-    match said {
-        Writing::Refused(r) => print_refusal(out, r)?,
-        Writing::Bytes(n) => write!(out, " bytes={n}")?,
+    let table = Table::new(front(&jobs, j), front(&arcs, a), front(&sections, s));
+    match text::write(&table, bytes) {
+        Err(r) => print_refusal(out, r)?,
+        Ok(n) => write!(out, " bytes={n}")?,
     }
     writeln!(out)
 }

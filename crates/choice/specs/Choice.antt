@@ -1,29 +1,23 @@
 -- Laws for the choice: the units that one pass over the sections counts, and that the ceilings compared section by section are
 -- 01's test.
-use Rattle.std.specs.Prelude.{◌≡◌, ◌≢◌, ◌⊎◌, Bool, true, cond, ◌&&◌, ◌||◌, ℕ, ◌+◌, ◌≤◌, ◌<◌, set, replicate}
+use Rattle.std.specs.Prelude.{◌≡◌, ◌≢◌, ◌⊎◌, Bool, true, cond, ℕ, ◌+◌, ◌≤◌, ◌<◌, set, replicate}
 use Rattle.std.proofs.Math.Path.{refl, ap}
 use Rattle.std.proofs.Common.{sym, ◌∙◌, arith}
 use Rattle.std.proofs.Math.Logic.{⊎_elim}
-use Rattle.std.proofs.Math.Bool.{false, and-true, and-false}
-use mathlib.Core.List.{List, []}
-use Rattle.std.proofs.Math.Option.{Option, none, some}
+use Rattle.std.proofs.Math.Bool.{false, and-false}
+use mathlib.Core.List.{List}
 use Rattle.std.proofs.Math.Decide.{ℕ_discrete}
 use Rattle.std.proofs.Math.ListN.{get_or, length-set, get_or-replicate}
 use Rattle.std.proofs.Math.Seq.{get_or-set_same, get_or-set_other}
 use Rattle.std.proofs.Math.Dec.{eqb}
 use borrow.Author.Tests.{eq-eqb, ne_eqb}
-use Rattle.rules.specs.Rows.{all, sum, first}
-use Rattle.rules.specs.Table.{Plan, State, resources, job_count, section_count, owner, resource, span}
-use Rattle.rules.specs.Order.{comes_before}
-use Rattle.rules.specs.Tick.{pending, holds, tightest, span_of, below_ceiling, held_on, held, clears, may_start, first_pending, first_started, choose, chosen}
+use Rattle.rules.specs.Rows.{all, sum}
+use Rattle.rules.specs.Table.{Plan, State, resources, section_count, owner, resource, span}
+use Rattle.rules.specs.Tick.{held_on, held, clears, may_start}
 use Rattle.laws.specs.Tests.{Says, so, not_so, lt_says, eq_says, says_or, yes_says, no_says}
-use Rattle.laws.specs.Rows.{sum_more, sum_most, all_says, all_ext}
-use Rattle.laws.specs.First.{first_ext}
+use Rattle.laws.specs.Rows.{sum_more, sum_most, all_says}
 use Rattle.laws.specs.Clears.{clears_says, may_says}
-use Rattle.rules.specs.Lists.{plan, state, at}
-use Rattle.choice.specs.Lists.{as_option, candidate, HeldTo, clear_of}
-use Rattle.choice.specs.declared.Found.{Found}
-use Rattle.choice.specs.declared.Found.TheVariants.{At, Nothing}
+use Rattle.choice.specs.Fits.{held_now, HeldTo, clear_of}
 
 -- ---- units held, section by section
 
@@ -33,8 +27,8 @@ module _ (p : Plan) (st : State) where
   held_start = record { all_listed = refl; are = λ q l. get_or-replicate resources q 0 0 l }
 
   -- section m is not held
-  pub held_skip : {m : ℕ} {u : List ℕ} → HeldTo p st m u → (holds p st m && pending p st (owner p.table m)) ≡ false → HeldTo p st (m + 1) u
-  unfolding held_on
+  pub held_skip : {m : ℕ} {u : List ℕ} → HeldTo p st m u → held_now p st m ≡ false → HeldTo p st (m + 1) u
+  unfolding held_on held_now
   held_skip {m} {u} h e =
       record {
         all_listed = h.all_listed;
@@ -42,10 +36,10 @@ module _ (p : Plan) (st : State) where
       }
 
   -- section m is held, and its resource counts one more
-  pub held_more : {m : ℕ} {u : List ℕ} → HeldTo p st m u → (holds p st m && pending p st (owner p.table m)) ≡ true
+  pub held_more : {m : ℕ} {u : List ℕ} → HeldTo p st m u → held_now p st m ≡ true
       → resource p.table m < resources
       → HeldTo p st (m + 1) (set u (resource p.table m) (get_or u (resource p.table m) 0 + 1))
-  unfolding held_on
+  unfolding held_on held_now
   held_more {m} {u} h e l =
       record {
         all_listed = rw length-set h.all_listed;
@@ -108,51 +102,3 @@ module _ (p : Plan) (st : State) (u : List ℕ) (h : HeldTo p st (section_count 
           (λ z. absurd (n.0 (held-is (resource p.table s) (fit s l) ∙ z)))
           (λ f. absurd (omega (arith, n.1, f s (record { listed = l; on = refl }))))
           (yes_says (clears_says p (span p j) (resource p.table s) (held p st (resource p.table s))) (y (resource p.table s) (fit s l)))
-
--- ---- the first jobs
-
-module _ (p : Plan) (st : State) (n : ℕ) (e : job_count p.table ≡ n) where
-  pub first-pending-is : first (comes_before p) (candidate false p st) n ≡ first_pending p st
-  unfolding first_pending candidate
-  first-pending-is = rw (← e) (first_ext (comes_before p) (candidate false p st) (pending p st) (job_count p.table) (λ k l. and-true (pending p st k)))
-
-  pub first-started-is : first (comes_before p) (candidate true p st) n ≡ first_started p st
-  unfolding first_started candidate
-  first-started-is = rw (← e) refl
-
--- ---- the choice looks at neither arcs nor marks nor finishes
-
-module _ (jobs arcs sections times : List ℕ) (t : ℕ) (e m f : List ℕ) where
-  span_same : (o : Option ℕ) → span_of (plan jobs [] sections times) o ≡ span_of (plan jobs arcs sections times) o
-  span_same none = refl
-  span_same (some s) = refl
-
-  clears_same : (d q busy : ℕ) → clears (plan jobs [] sections times) d q busy ≡ clears (plan jobs arcs sections times) d q busy
-  unfolding clears
-  clears_same d q busy =
-      ap (λ o. eqb busy 0 || below_ceiling d o) (span_same (tightest (plan jobs [] sections times) q))
-
-  may_start_same : (j : ℕ) → may_start (plan jobs [] sections times) (at t e) j ≡ may_start (plan jobs arcs sections times) (state t e m f) j
-  unfolding may_start
-  may_start_same j =
-      all_ext _ _ resources
-      (λ q l. clears_same (span (plan jobs [] sections times) j) q (held (plan jobs [] sections times) (at t e) q))
-
-  chosen_same : chosen (plan jobs [] sections times) (at t e) ≡ chosen (plan jobs arcs sections times) (state t e m f)
-  unfolding chosen
-  chosen_same = go (first_pending (plan jobs [] sections times) (at t e))
-    where
-      go : (o : Option ℕ) → choose (plan jobs [] sections times) (at t e) o ≡ choose (plan jobs arcs sections times) (state t e m f) o
-      go none = refl
-      go (some j) = rw (may_start_same j)
-
-  -- what was found by them
-  module _ (r : Found) (is : as_option r ≡ chosen (plan jobs [] sections times) (at t e)) where
-    pub found-is : as_option r ≡ chosen (plan jobs arcs sections times) (state t e m f)
-    found-is = is ∙ chosen_same
-
-    pub found_at : (j : ℕ) → r ≡ At j → chosen (plan jobs arcs sections times) (state t e m f) ≡ some j
-    found_at j q = sym found-is ∙ ap as_option q
-
-    pub found_none : r ≡ Nothing → chosen (plan jobs arcs sections times) (state t e m f) ≡ none
-    found_none q = sym found-is ∙ ap as_option q

@@ -1,3 +1,3 @@
--- Definitions over lists, and laws for the choice.
-pub mod Lists
+-- What the choice is handed, and laws for it.
+pub mod Fits
 pub mod Choice

@@ -1,225 +1,118 @@
 #![tactic(auto)]
 // Who runs in a tick: one pass over the jobs for the first in the order, one over the sections for what is held, and one for
 // the ceilings.
-ghost use Rattle.std.specs.Prelude.{◌≡◌, [], not, ◌&&◌, ◌||◌, ◌+◌, ◌*◌, ◌/◌, ◌-◌, ◌<◌, ltb, leb, eqb, length, get_or};
+// What is asked of a plan or a state stands in each `requires`, as little as the function needs: ARCHITECTURE.md names these functions, and a
+// type that brought the facts along would ask more of their callers.
+ghost use Rattle.std.specs.Prelude.{◌≡◌, Bool, ℕ, true, ◌&&◌, ◌||◌, ◌<◌, ltb, eqb, length};
 ghost use Rattle.rules.specs.Rows.{all, first, better};
-ghost use Rattle.rules.specs.Tick.{holds, pending, chosen};
+ghost use Rattle.rules.specs.Table.{job_count, section_count};
+ghost use Rattle.rules.specs.Tick.{pending, started, chosen};
 ghost use Rattle.rules.specs.Order.{comes_before};
-ghost use Rattle.rules.specs.Lists.{plan, timed, at};
-ghost use Rattle.choice.specs.Lists.{as_option, Within, row_below, candidate, Sized, SectionsFit, HeldTo, clear_of};
+ghost use Rattle.choice.specs.Fits.{Paired, Sized, SectionsFit, held_now, HeldTo, clear_of};
 
+use rules::plan::Plan;
+use rules::state::State;
 use rules::{Instant, Span};
 
-// A job that was looked for.
-#[derive(Clone, Copy)]
-pub enum Found {
-    At(usize),
-    Nothing,
-}
-
-// The modified release of a job.
-pub fn release_of(times: &[u32], job: usize) -> Instant
-    requires { 2 * job + 1 < length times.now }
-    ensures { result.0 ≡ get_or times.now (2 * job) 0 }
-{
-    Instant(times[2 * job])
-}
-
-// The modified deadline of a job.
-fn deadline_of(times: &[u32], job: usize) -> Instant
-    requires { 2 * job + 1 < length times.now }
-    ensures { result.0 ≡ get_or times.now (2 * job + 1) 0 }
-{
-    Instant(times[2 * job + 1])
-}
-
-// The relative deadline of a job.
-fn span_of(times: &[u32], job: usize) -> Span
-    requires { 2 * job + 1 < length times.now }
-    ensures { result.0 ≡ get_or times.now (2 * job + 1) 0 - get_or times.now (2 * job) 0 }
-{
-    deadline_of(times, job).since(release_of(times, job))
-}
-
-// Whether a comes before b, where `tie` says so of equal ones.
-fn first_key(a: Instant, b: Instant, tie: bool) -> bool
-    ensures { result ≡ (ltb a.0 b.0 || (eqb a.0 b.0 && tie)) }
-{
-    a.earlier(b) | (a.same(b) & tie)
-}
-
 // Whether job i comes before job j in the order: by deadline, then by release, then by number.
-fn comes_before(times: &[u32], i: usize, j: usize) -> bool
-    requires { (2 * i + 1 < length times.now) × (2 * j + 1 < length times.now) }
-    ensures { result ≡ comes_before (timed [] times.now) i j }
+#[tactic(auto, using(std::proofs::lemmas::Bool::Decides::nat_tests), unfolding(rules::specs::Order::comes_before))]
+fn comes_before(plan: &Plan, i: usize, j: usize) -> bool
+    requires { Paired plan.now × (i < job_count plan.now.table) × (j < job_count plan.now.table) }
+    ensures { result ≡ comes_before plan.now i j }
 {
-    let by_release = first_key(release_of(times, i), release_of(times, j), i < j);
-    first_key(deadline_of(times, i), deadline_of(times, j), by_release)
+    (plan.deadline(i), plan.release(i), i) < (plan.deadline(j), plan.release(j), j)
 }
 
-// Whether a job waits for the processor: released, not finished, and started where only started jobs are asked for.
-fn is_candidate(release: Instant, tick: u32, executed: u32, cost: u32, started_only: bool) -> bool
-    ensures { result ≡ (leb release.0 tick && ltb executed cost && (not started_only || ltb 0 executed)) }
+// The first job in the order that passes the test.
+fn first_job<F: Fn(usize) -> bool>(plan: &Plan, test: F) -> Option<usize>
+    requires { Paired plan.now × ((j : ℕ) → j < job_count plan.now.table → F.pre test j) }
+    ensures { (f : ℕ → Bool) → ((j : ℕ) (r : Bool) → F.post test j r → r ≡ f j)
+        → result ≡ first (comes_before plan.now) f (job_count plan.now.table) }
 {
-    (release.0 <= tick) & (executed < cost) & (!started_only | (0 < executed))
+    let n = plan.table().job_count();
+    foremost::first(n, test, |i, j| comes_before(plan, i, j))
 }
 
-// The turn of the choice: job j against the best so far, which is past the last job where there is none.
-fn turn(
-    jobs: &[u32],
-    times: &[u32],
-    tick: u32,
-    executed: &[u32],
-    started_only: bool,
-    j: usize,
-    best: usize,
-) -> usize
-    requires { Sized jobs.now times.now executed.now × (j < length executed.now) }
-    ensures { row_below (length executed.now) result
-        ≡ better (comes_before (timed jobs.now times.now)) (candidate started_only (timed jobs.now times.now) (at tick executed.now) j) j (row_below (length executed.now) best) }
+// Whether job j is released and has not finished.
+#[tactic(auto, unfolding(rules::specs::Tick::pending))]
+fn is_pending(plan: &Plan, state: &State, j: usize) -> bool
+    requires { Sized plan.now state.now × (j < job_count plan.now.table) }
+    ensures { result ≡ pending plan.now state.now j }
 {
-    if !is_candidate(
-        release_of(times, j),
-        tick,
-        executed[j],
-        jobs[3 * j + 1],
-        started_only,
-    ) {
-        return best;
-    }
-    if executed.len() <= best {
-        return j;
-    }
-    if comes_before(times, j, best) {
-        return j;
-    }
-    best
+    let executed = state.executed();
+    (plan.release(j) <= Instant(state.tick())) & (executed[j] < plan.table().cost(j))
 }
 
-// The first pending job in the order, or the first started one of them.
-fn first_job(jobs: &[u32], times: &[u32], tick: u32, executed: &[u32], started_only: bool) -> Found
-    requires { Sized jobs.now times.now executed.now }
-    ensures { Within result (length executed.now)
-        × (as_option result ≡ first (comes_before (timed jobs.now times.now)) (candidate started_only (timed jobs.now times.now) (at tick executed.now)) (length executed.now)) }
+// Whether job j has executed at least one tick.
+#[tactic(auto, unfolding(rules::specs::Tick::started))]
+fn is_started(state: &State, j: usize) -> bool
+    requires { j < length state.now.executed }
+    ensures { result ≡ started state.now j }
 {
-    let n = executed.len();
-    let mut best = n;
-    let mut j = 0;
-    while j < n {
-        best = turn(jobs, times, tick, executed, started_only, j, best);
-        j += 1;
-    }
-    if n <= best {
-        return Found::Nothing;
-    }
-    Found::At(best)
-}
-
-// A number of a section's row.
-pub fn entry(sections: &[u32], k: usize) -> usize
-    requires { k < length sections.now }
-    ensures { result ≡ get_or sections.now k 0 }
-{
-    sections[k] as usize
+    let executed = state.executed();
+    0 < executed[j]
 }
 
 // Whether a pending job holds section s.
-fn is_held(
-    jobs: &[u32],
-    sections: &[u32],
-    times: &[u32],
-    tick: u32,
-    executed: &[u32],
-    s: usize,
-) -> bool
-    requires { Sized jobs.now times.now executed.now × SectionsFit sections.now (length executed.now) × (s < length sections.now / 4) }
-    ensures { result ≡ (holds (plan jobs.now [] sections.now times.now) (at tick executed.now) s
-        && pending (timed jobs.now times.now) (at tick executed.now) (get_or sections.now (4 * s) 0)) }
+#[tactic(auto, using(std::proofs::lemmas::Bool::Decides::nat_tests), unfolding(crate::specs::Fits::held_now, rules::specs::Tick::holds, rules::specs::Tick::pending))]
+fn is_held(plan: &Plan, state: &State, s: usize) -> bool
+    requires { Sized plan.now state.now × SectionsFit plan.now.table × (s < section_count plan.now.table) }
+    ensures { result ≡ held_now plan.now state.now s }
 {
-    let job = entry(sections, 4 * s);
+    let table = plan.table();
+    let job = table.owner(s);
+    let executed = state.executed();
     let done = executed[job];
-    if done <= sections[4 * s + 2] {
-        return false;
-    }
-    if sections[4 * s + 3] <= done {
-        return false;
-    }
-    is_candidate(release_of(times, job), tick, done, jobs[3 * job + 1], false)
+    table.from(s) < done && done < table.to(s) && is_pending(plan, state, job)
 }
 
 // How many units of each resource pending jobs hold.
-fn held_units(
-    jobs: &[u32],
-    sections: &[u32],
-    times: &[u32],
-    tick: u32,
-    executed: &[u32],
-) -> [u32; 16]
-    requires { Sized jobs.now times.now executed.now × SectionsFit sections.now (length executed.now) }
-    ensures { HeldTo (plan jobs.now [] sections.now times.now) (at tick executed.now)
-        (length sections.now / 4) result }
+fn held_units(plan: &Plan, state: &State) -> [u32; 16]
+    requires { Sized plan.now state.now × SectionsFit plan.now.table }
+    ensures { HeldTo plan.now state.now (section_count plan.now.table) result }
 {
-    let many = sections.len() / 4;
+    let table = plan.table();
     let mut units = [0u32; 16];
-    let mut s = 0;
-    while s < many {
-        if is_held(jobs, sections, times, tick, executed, s) {
-            let q = entry(sections, 4 * s + 1);
+    for s in 0..table.section_count() {
+        if is_held(plan, state, s) {
+            let q = table.resource(s);
             units[q] += 1;
         }
-        s += 1;
     }
     units
 }
 
 // Whether nothing is held of the resource of section s, or this span is below that of the job that owns the section.
-fn clears(span: Span, sections: &[u32], times: &[u32], units: &[u32; 16], s: usize) -> bool
-    requires { SectionsFit sections.now (length times.now / 2) × (s < length sections.now / 4) }
-    ensures { result ≡ clear_of (plan [] [] sections.now times.now) span.0 units.now s }
+#[tactic(auto, using(std::proofs::lemmas::Bool::Decides::nat_tests), unfolding(crate::specs::Fits::clear_of))]
+fn clears(plan: &Plan, span: Span, units: &[u32; 16], s: usize) -> bool
+    requires { SectionsFit plan.now.table × Paired plan.now × (s < section_count plan.now.table) }
+    ensures { result ≡ clear_of plan.now span.0 units.now s }
 {
-    let q = entry(sections, 4 * s + 1);
-    if units[q] == 0 {
-        return true;
-    }
-    let job = entry(sections, 4 * s);
-    span.below(span_of(times, job))
+    let table = plan.table();
+    let q = table.resource(s);
+    units[q] == 0 || span < plan.span(table.owner(s))
 }
 
 // Whether a job of this span is below the ceiling of every resource of which units are held.
-fn may_start(span: Span, sections: &[u32], times: &[u32], units: &[u32; 16]) -> bool
-    requires { SectionsFit sections.now (length times.now / 2) }
-    ensures { result ≡ all (clear_of (plan [] [] sections.now times.now) span.0 units.now) (length sections.now / 4) }
+fn may_start(plan: &Plan, span: Span, units: &[u32; 16]) -> bool
+    requires { SectionsFit plan.now.table × Paired plan.now }
+    ensures { result ≡ all (clear_of plan.now span.0 units.now) (section_count plan.now.table) }
 {
-    let many = sections.len() / 4;
-    let mut s = 0;
-    while s < many {
-        if !clears(span, sections, times, units, s) {
-            return false;
-        }
-        s += 1;
-    }
-    true
+    (0..plan.table().section_count()).all(|s| clears(plan, span, units, s))
 }
 
 // The job that runs in this tick, if one does.
-pub fn choose(jobs: &[u32], sections: &[u32], times: &[u32], tick: u32, executed: &[u32]) -> Found
-    requires { Sized jobs.now times.now executed.now × SectionsFit sections.now (length executed.now) }
-    ensures { Within result (length executed.now)
-        × (as_option result ≡ chosen (plan jobs.now [] sections.now times.now) (at tick executed.now)) }
+pub fn choose(plan: &Plan, state: &State) -> Option<usize>
+    requires { Sized plan.now state.now × SectionsFit plan.now.table }
+    ensures { result ≡ chosen plan.now state.now }
 {
-    let first = first_job(jobs, times, tick, executed, false);
-    match first {
-        Found::Nothing => first,
-        Found::At(job) => {
-            let started = 0 < executed[job];
-            if started {
-                return first;
-            }
-            let units = held_units(jobs, sections, times, tick, executed);
-            if may_start(span_of(times, job), sections, times, &units) {
-                return first;
-            }
-            first_job(jobs, times, tick, executed, true)
-        }
+    let first = first_job(plan, |j| is_pending(plan, state, j))?;
+    if is_started(state, first) {
+        return Some(first);
     }
+    let units = held_units(plan, state);
+    if may_start(plan, plan.span(first), &units) {
+        return Some(first);
+    }
+    first_job(plan, |j| is_pending(plan, state, j) && is_started(state, j))
 }

@@ -116,11 +116,3 @@ has-is w i = rw digit-is
 pub insert-is : (w i : ℕ) → i < 64 → bit_or w ((1 * 2 ^ i) % 2 ^ 64) ≡ insert w i
 unfolding insert
 insert-is w i h = ap (bit_or w) (shl_exact 1 i 64 (omega arith) (omega arith) ∙ one-mul (2 ^ i))
-
-pub joined_yes : (w k next : ℕ) → has w k ≡ true → bit_or w next ≡ joined w k next
-unfolding joined
-joined_yes w k next e = rw e
-
-pub joined_no : (w k next : ℕ) → has w k ≡ false → w ≡ joined w k next
-unfolding joined
-joined_no w k next e = rw e

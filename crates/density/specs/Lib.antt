@@ -2,7 +2,6 @@
 pub mod Divides
 pub mod Multiple
 pub mod Bounds
-pub mod Failing
 pub mod Promise
 pub mod Sorted
 pub mod Theorems

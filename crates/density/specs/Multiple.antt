@@ -1,5 +1,5 @@
 -- The common multiple of all relative deadlines, as the code finds it: stopped where it exceeds its limit.
-use Rattle.std.specs.Prelude.{◌≡◌, List}
+use Rattle.std.specs.Prelude.{◌≡◌, Option, None, Some}
 use Rattle.std.proofs.Math.Path.{refl}
 use Rattle.std.proofs.Common.{◌∙◌, le-div_iff_mul-le, div-lt_iff_lt-mul, add-one}
 use Prim.Native.Nat.{ℕ, zero, suc, ◌+◌, ◌*◌, ◌/◌, ◌≤◌, ◌<◌}
@@ -7,21 +7,17 @@ use Rattle.std.proofs.Math.Decide.{ℕ_discrete}
 use native.Mathlib.Omega.{arith}
 use Rattle.rules.specs.Table.{Plan, span}
 use Rattle.rules.specs.Density.{gcd, lcm, multiple_to, most_multiple}
-use Rattle.rules.specs.Lists.{plan}
-use Rattle.sums.specs.Lists.{of_times}
 use Rattle.density.specs.Divides.{Divides, Lcm, gcd-some, lcm-is, lcm-some, divides_le, divides_trans}
-use Rattle.density.specs.declared.multiple.Common.{Common}
-use Rattle.density.specs.declared.multiple.Common.TheVariants.{Of, Over}
 
--- What the code says of a multiple: it, or that it exceeds the limit.
-abbrev pub Tells : ℕ → Common → Type 0
-Tells m (Of l) = (l ≡ m) × (m ≤ most_multiple)
-Tells m Over = most_multiple < m
+-- What the code says of a multiple: it, or nothing where it exceeds the limit.
+abbrev pub Tells : ℕ → Option ℕ → Type 0
+Tells m (Some l) = (l ≡ m) × (m ≤ most_multiple)
+Tells m None = most_multiple < m
 
-pub told-within : (m l : ℕ) (r : Common) → Tells m r → r ≡ Of l → (l ≡ m) × (m ≤ most_multiple)
+pub told-within : (m l : ℕ) (r : Option ℕ) → Tells m r → r ≡ Some l → (l ≡ m) × (m ≤ most_multiple)
 told-within m l r t e = rw e at t
 
-pub told_over : (m : ℕ) (r : Common) → Tells m r → r ≡ Over → most_multiple < m
+pub told_over : (m : ℕ) (r : Option ℕ) → Tells m r → r ≡ None → most_multiple < m
 told_over m r t e = rw e at t
 
 -- ---- one more number: `q > limit / b` for `q * b > limit`, which could wrap
@@ -82,24 +78,18 @@ module _ (p : Plan) where
 
   -- ---- a turn of the loop, which has the multiple of the jobs before j, and what the code found of one more
 
-  module _ (j m d : ℕ) (r : Common) (x : m ≡ multiple_to p j) (y : d ≡ span p j) (t : Tells (lcm m d) r) where
-    pub multiple_turn : (l : ℕ) → r ≡ Of l → (l ≡ multiple_to p (j + 1)) × (l ≤ most_multiple)
+  module _ (j m d : ℕ) (r : Option ℕ) (x : m ≡ multiple_to p j) (y : d ≡ span p j) (t : Tells (lcm m d) r) where
+    pub multiple_turn : (l : ℕ) → r ≡ Some l → (l ≡ multiple_to p (j + 1)) × (l ≤ most_multiple)
     multiple_turn l e =
         let h = told-within (lcm m d) l r t e in
         (h.0 ∙ rw (multiple_more j, x, y), omega (arith, h.0, h.1))
 
-    pub multiple-over : (n : ℕ) → j < n → ((j : ℕ) → j < n → 0 < span p j) → r ≡ Over → most_multiple < multiple_to p n
+    pub multiple-over : (n : ℕ) → j < n → ((j : ℕ) → j < n → 0 < span p j) → r ≡ None → most_multiple < multiple_to p n
     multiple-over n h s e =
         multiple-stops (j + 1) n (omega arith) s (rw (multiple_more j, ← x, ← y) (told_over (lcm m d) r t e))
 
-  pub multiple_end : (i n m : ℕ) → i ≤ n → n ≤ i → m ≡ multiple_to p i → m ≤ most_multiple → Tells (multiple_to p n) (Of m)
+  pub multiple_end : (i n m : ℕ) → i ≤ n → n ≤ i → m ≡ multiple_to p i → m ≤ most_multiple → Tells (multiple_to p n) (Some m)
   multiple_end i n m h k e l =
       let q : i ≡ n = omega arith in
       let x : m ≡ multiple_to p n = rw (← q) e in
       (x, rw (← x) l)
-
--- it reads only the times
-pub same_multiple : (jobs arcs sections times : List ℕ) (n : ℕ) → multiple_to (of_times times) n ≡ multiple_to (plan jobs arcs sections times) n
-unfolding multiple_to
-same_multiple jobs arcs sections times zero = refl
-same_multiple jobs arcs sections times (suc n) = rw (same_multiple jobs arcs sections times n)

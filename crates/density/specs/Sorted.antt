@@ -1,8 +1,7 @@
 -- Places by sorting: a sum over all jobs is the sum over the entries of a sorting, and what stands not after the k-th is the
 -- first k.
-use Rattle.std.specs.Prelude.{◌≡◌, refl, ◌≢◌, Bool, true, false, cond, not, ℕ, zero, suc, ◌+◌, ◌*◌, ◌-◌, ◌≤◌, ◌<◌, ltb, eqb}
+use Rattle.std.specs.Prelude.{◌≡◌, refl, ◌≢◌, Bool, true, false, cond, not, ℕ, zero, suc, ◌+◌, ◌*◌, ◌-◌, ◌≤◌, ◌<◌, ltb, eqb, Option, None, Some}
 use Rattle.std.proofs.Common.{sym, ◌∙◌, ap, ⊎_elim, arith}
-use Rattle.std.proofs.Math.Option.{Option, none, some}
 use Rattle.std.proofs.Math.Decide.{ℕ_discrete, dec_lt}
 use borrow.Author.Tests.{lt-ltb, le-ltb, eq-eqb, ne_eqb, not-true, not-false}
 use Rattle.rules.specs.Rows.{count, sum, lowest}
@@ -181,9 +180,9 @@ cut_at p n entry S = go (lowest late n) (lowest-told late n)
     late k = not (sorts_before p (entry k) n)
 
     go : (o : Option ℕ) → Lowest late n o → (c : ℕ) × Cut p n entry c
-    go none h =
+    go None h =
         (n, record { within = omega arith; front = λ k l. not-false _ (h k l); back = λ k a b. absurd (omega arith) })
-    go (some c) h =
+    go (Some c) h =
         let first : sorts_before p n (entry c) ≡ true = sorts_other p (entry c) n (S.job c h.0) (not-true _ h.1) in (
           c,
           record {

@@ -1,11 +1,10 @@
 -- What follows of the density test: its promise settles the answer; Euclid's recursion and the common multiple are what 01
 -- calls them; the places are those of sorting; and the sums over the multiple say what the fractions say.
-use Rattle.std.specs.Prelude.{◌≡◌, refl, ◌↔◌, Bool, true, false, not, ℕ, zero, suc, ◌+◌, ◌*◌, ◌/◌, ◌≤◌, ◌<◌, ltb}
+use Rattle.std.specs.Prelude.{◌≡◌, refl, ◌↔◌, Bool, true, false, not, ℕ, zero, suc, ◌+◌, ◌*◌, ◌/◌, ◌≤◌, ◌<◌, ltb, Option, None, Some, Result, Ok, Err}
 use Rattle.std.proofs.Math.Path.{sym, ap}
 use Rattle.std.proofs.Common.{◌∙◌, mul_assoc, arith, le-leb}
 use Rattle.std.proofs.Math.Logic.{⊎_elim}
 use Rattle.std.proofs.Math.Bool.{cond}
-use Rattle.std.proofs.Math.Option.{Option, none, some}
 use Rattle.std.proofs.Math.Nat.{mul-le-mul_left}
 use Rattle.std.proofs.Math.Decide.{dec_le}
 use Rattle.rules.specs.Rows.{sum, lowest}
@@ -22,25 +21,24 @@ use Rattle.sums.specs.Order.{sorts_order}
 use Rattle.sums.specs.Sums.{adds}
 use Rattle.density.specs.Sorted.{Sorting, sorting_of, sum_first, sum_scale, count-before}
 use Rattle.density.specs.Promise.{Answer, said, Answers}
-use Rattle.density.specs.declared.Verdict.{Verdict}
-use Rattle.density.specs.declared.Verdict.TheVariants.{Refused, Yes, No}
+use Rattle.rules.specs.declared.Refusal.{Refusal}
 
 -- ---- the answer is settled
 
--- a verdict is told by what it says
-verdict_of : Outcome Answer → Verdict
-verdict_of (refused f) = Refused (refusal_of f)
-verdict_of (gives a) = cond a.is_yes Yes (No a.place)
+-- an answer is told by what it says
+answer_of : Outcome Answer → Result (Option ℕ) Refusal
+answer_of (refused f) = Err (refusal_of f)
+answer_of (gives a) = Ok (cond a.is_yes None (Some a.place))
 
-verdict_back : (v : Verdict) → verdict_of (said v) ≡ v
-unfolding verdict_of
-verdict_back (Refused r) = ap Refused (refusal_back r)
-verdict_back Yes = refl
-verdict_back (No k) = refl
+answer_back : (v : Result (Option ℕ) Refusal) → answer_of (said v) ≡ v
+unfolding answer_of
+answer_back (Err r) = ap Err (refusal_back r)
+answer_back (Ok None) = refl
+answer_back (Ok (Some k)) = refl
 
 -- Any two answers that the promise allows are equal.
-pub density_settled : {p : Plan} {v w : Verdict} → Answers p v → Answers p w → v ≡ w
-density_settled {p} {v} {w} a b = sym (verdict_back v) ∙ ap verdict_of (a.is ∙ sym b.is) ∙ verdict_back w
+pub density_settled : {p : Plan} {v w : Result (Option ℕ) Refusal} → Answers p v → Answers p w → v ≡ w
+density_settled {p} {v} {w} a b = sym (answer_back v) ∙ ap answer_of (a.is ∙ sym b.is) ∙ answer_back w
 
 -- ---- the greatest common divisor and the least common multiple
 
@@ -80,8 +78,8 @@ fails_at p entry m k = ltb m (sum_at p entry m k)
 
 -- "The lowest failing place, from 1; 0 with a yes."
 abbrev pub place_from_one : Option ℕ → ℕ
-place_from_one none = 0
-place_from_one (some k) = k + 1
+place_from_one None = 0
+place_from_one (Some k) = k + 1
 
 module _ (p : Plan) (entry : ℕ → ℕ) (S : Sorting p (job_count p.table) entry) where
   -- The k-th entry is the job of place k.
@@ -109,13 +107,13 @@ module _ (p : Plan) (entry : ℕ → ℕ) (S : Sorting p (job_count p.table) ent
           → place_or_yes p o ≡ place_from_one (lowest (fails_at p entry m) (job_count p.table))
       go (nobody h) =
           ap place_from_one
-          (lowest-is (fails_at p entry m) (job_count p.table) none (λ k l. sym (fails_sorted m k l) ∙ h (entry k) (S.job k l)))
+          (lowest-is (fails_at p entry m) (job_count p.table) None (λ k l. sym (fails_sorted m k l) ∙ h (entry k) (S.job k l)))
       go (found {x} l e least) =
           let w = S.holds x l in
           ap (place_of_job p) (sym w.2)
           ∙ place_sorted w.0 w.1
           ∙ ap place_from_one
-          (lowest-is (fails_at p entry m) (job_count p.table) (some w.0) (
+          (lowest-is (fails_at p entry m) (job_count p.table) (Some w.0) (
             w.1,
             sym (fails_sorted m w.0 w.1) ∙ ap (fails p m) w.2 ∙ e,
             λ k b. ⊎_elim

@@ -1,20 +1,18 @@
 -- Laws for the judgement before a step, each way out, and what is known where a step can be taken.
-use Rattle.std.specs.Prelude.{◌≡◌, not, ◌&&◌, List, [], ◌∷◌, ◌++◌, ℕ, ◌+◌, ◌*◌, ◌/◌, ◌≤◌, ◌<◌, length, get_or}
+use Rattle.std.specs.Prelude.{◌≡◌, not, ◌&&◌, [], ◌∷◌, ◌++◌, ℕ, ◌*◌, ◌≤◌, ◌<◌, length, None, Some}
 use Rattle.std.proofs.Math.Path.{refl}
 use Rattle.std.proofs.Math.Logic.{⊎_elim}
 use Rattle.std.proofs.Math.Bool.{Bool, true, false}
-use Rattle.std.proofs.Math.Option.{none, some}
 use Rattle.std.proofs.Common.{arith}
 use Rattle.std.proofs.Math.Dec.{ltb}
 use borrow.Author.Tests.{lt-ltb, le-ltb}
 use Rattle.rules.specs.Rows.{all}
-use Rattle.rules.specs.Table.{Plan, State, job_count, cost, last_tick, latest, modified_release, executed, mark, finish}
+use Rattle.rules.specs.Table.{Plan, State, job_count, cost, deadline, last_tick, latest, modified_release, executed, mark, finish}
 use Rattle.rules.specs.Refusals.{fault, first_of, demand, accepted, count_faults, row_faults, times_right, plan_in_bounds, job_state_right, state_in_bounds, all_finished, step_fault}
 use Rattle.laws.specs.Tests.{Says, bool_says, eq_says, le_says, lt_says, says_map, says_and, yes_says, no_says, says_yes}
 use Rattle.laws.specs.Rows.{all-at, all_says}
 use Rattle.laws.specs.Refusals.{all_none, demand-none, bounds_rows}
-use Rattle.rules.specs.Lists.{plan, timed, state}
-use Rattle.ticks.specs.Lists.{Fit}
+use Rattle.ticks.specs.Fits.{Same, Fit}
 use Rattle.states.specs.Ends.{Bounded}
 
 -- A plan and a state of it are within their bounds.
@@ -77,12 +75,12 @@ module _ (p : Plan) (st : State) where
 -- ---- the judgement before a step, each way out
 
 module _ (p : Plan) (st : State) where
-  pub unfit : in_bounds p st ≡ false → some (fault 12 0) ≡ step_fault p st
+  pub unfit : in_bounds p st ≡ false → Some (fault 12 0) ≡ step_fault p st
   unfolding step_fault in_bounds
   unfit e = ⊎_elim (λ a. rw a) (λ b. go (plan_in_bounds p) b) (no_says (says_and (bool_says (plan_in_bounds p)) (bool_says (state_in_bounds p st))) e)
     where
       go : (a : Bool) → state_in_bounds p st ≡ false
-          → some (fault 12 0)
+          → Some (fault 12 0)
           ≡ first_of (demand (a && (state_in_bounds p st && ltb st.tick last_tick)) 12 ∷ demand (not (all_finished p st)) 13 ∷ [])
       go true b = rw b
       go false b = refl
@@ -92,7 +90,7 @@ module _ (p : Plan) (st : State) where
   both e = yes_says (says_and (bool_says (plan_in_bounds p)) (bool_says (state_in_bounds p st))) e
 
   -- where a step can be taken
-  pub step_good : step_fault p st ≡ none → (plan_in_bounds p ≡ true) × (state_in_bounds p st ≡ true) × (st.tick < last_tick)
+  pub step_good : step_fault p st ≡ None → (plan_in_bounds p ≡ true) × (state_in_bounds p st ≡ true) × (st.tick < last_tick)
   unfolding step_fault
   step_good q =
       let judged : Bool = plan_in_bounds p && (state_in_bounds p st && ltb st.tick last_tick) in
@@ -103,85 +101,64 @@ module _ (p : Plan) (st : State) where
       (a, b.0, b.1)
 
   module _ (h : in_bounds p st ≡ true) where
-    pub too_late : last_tick ≤ st.tick → some (fault 12 0) ≡ step_fault p st
+    pub too_late : last_tick ≤ st.tick → Some (fault 12 0) ≡ step_fault p st
     unfolding step_fault
     too_late l = let (a, b) = both h in rw (a, b, le-ltb st.tick last_tick l)
 
     module _ (l : st.tick < last_tick) where
-      pub over : all_finished p st ≡ true → some (fault 13 0) ≡ step_fault p st
+      pub over : all_finished p st ≡ true → Some (fault 13 0) ≡ step_fault p st
       unfolding step_fault
       over d = let (a, b) = both h in rw (a, b, lt-ltb st.tick last_tick l, d)
 
-      pub ready : all_finished p st ≡ false → none ≡ step_fault p st
+      pub ready : all_finished p st ≡ false → None ≡ step_fault p st
       unfolding step_fault
       ready d = let (a, b) = both h in rw (a, b, lt-ltb st.tick last_tick l, d)
 
-module _ (jobs arcs sections times : List ℕ) (t : ℕ) (e m f : List ℕ) where
-  pub bounds_plan : plan_in_bounds (plan jobs arcs sections times) ≡ false → false ≡ in_bounds (plan jobs arcs sections times) (state t e m f)
-  unfolding in_bounds
-  bounds_plan a = rw a
+-- ---- what is known of a plan within its bounds, and of lists as long as its jobs
 
-  pub bounds_state : (r : Bool) → plan_in_bounds (plan jobs arcs sections times) ≡ true → r ≡ state_in_bounds (timed jobs []) (state t e m f)
-      → r ≡ in_bounds (plan jobs arcs sections times) (state t e m f)
-  unfolding in_bounds state_in_bounds
-  bounds_state r a b = rw a b
-
-  -- ---- what is known of a plan within its bounds, and of lists as long as its jobs
-
-  pub plan_fit : plan_in_bounds (plan jobs arcs sections times) ≡ true
-      → length e ≡ length jobs / 3 → length m ≡ length jobs / 3 → length f ≡ length jobs / 3 → Fit jobs arcs sections times e m f
-  plan_fit a x y z =
-      let (r, pairs) = bounds_rows (plan jobs arcs sections times) a in
+module _ (p : Plan) (a : plan_in_bounds p ≡ true) where
+  pub plan_fit : (st : State) → Same p.table st → Fit p st
+  plan_fit st same =
+      let (r, pairs) = bounds_rows p a in
       record {
-        lists = record { by_job = omega (arith, r.jobs_whole); marked = omega arith; finished = omega arith };
-        few_jobs = omega (arith, r.few_jobs);
-        pairs = omega (arith, pairs);
-        arcs_fit = record { inside = λ k l. let h = r.arc_in k l in (omega (arith, h.before_in), omega (arith, h.after_in)) };
+        lists = same;
+        few_jobs = r.few_jobs;
+        paired = record { pairs = pairs };
+        arcs_fit = record { inside = λ k l. let h = r.arc_in k l in (h.before_in, h.after_in) };
         sections_fit =
             record {
               few = omega (arith, r.few_sections, r.sections_whole);
-              inside = λ k l. let h = r.section_in k l in (omega (arith, h.owner_in), h.resource_in);
+              inside = λ k l. let h = r.section_in k l in (h.owner_in, h.resource_in);
             };
       }
 
-  -- ---- where a step can be taken
+  -- releases and costs are within their bounds
+  pub bounded : Bounded p
+  unfolding plan_in_bounds times_right
+  bounded =
+      let (r, pairs) = bounds_rows p a in
+      let h =
+      yes_says
+      (says_and
+      (bool_says (accepted (first_of (count_faults p.table ++ row_faults p.table))))
+      (says_and (eq_says (length p.times) (2 * job_count p.table)) (bool_says (all (times_right p) (job_count p.table)))))
+      a in
+      record {
+        few = r.few_jobs;
+        pairs = omega (arith, pairs);
+        releases = λ j l. (yes_says (says_and (le_says (modified_release p j) latest) (bool_says _)) (all-at (times_right p) (job_count p.table) h.1.1 j l)).0;
+        costs = λ j l. (r.job_in j l).cost_in;
+      }
 
-  pub fit : in_bounds (plan jobs arcs sections times) (state t e m f) ≡ true → Fit jobs arcs sections times e m f
-  fit h =
-      let (a, b) = both (plan jobs arcs sections times) (state t e m f) h in
-      let i = state_in (plan jobs arcs sections times) (state t e m f) b in
-      plan_fit a i.executed_long i.marks_long i.finish_long
+  -- the deadline of a job of such a plan
+  pub deadline_in : (j : ℕ) → j < job_count p.table → deadline p.table j ≤ latest
+  deadline_in j l = ((bounds_rows p a).0.job_in j l).deadline_in
 
-  pub step_fit : step_fault (plan jobs arcs sections times) (state t e m f) ≡ none → Fit jobs arcs sections times e m f × (t < last_tick)
-  unfolding in_bounds
-  step_fit q = let (a, b, l) = step_good (plan jobs arcs sections times) (state t e m f) q in (fit (rw (a, b)), l)
+module _ (p : Plan) (st : State) where
+  pub state_same : state_in_bounds p st ≡ true → Same p.table st
+  state_same b =
+      let i = state_in p st b in record { by_job = i.executed_long; marked = record { by_job = i.marks_long }; finished = i.finish_long }
 
--- releases and costs are within their bounds
-pub bounded : (jobs arcs sections times : List ℕ) → plan_in_bounds (plan jobs arcs sections times) ≡ true → Bounded jobs times
-unfolding plan_in_bounds times_right
-bounded jobs arcs sections times a =
-    let (r, pairs) = bounds_rows (plan jobs arcs sections times) a in
-    let h =
-    yes_says
-    (says_and
-    (bool_says (accepted (first_of (count_faults (plan jobs arcs sections times).table ++ row_faults (plan jobs arcs sections times).table))))
-    (says_and
-    (eq_says (length times) (2 * (length jobs / 3)))
-    (bool_says (all (times_right (plan jobs arcs sections times)) (length jobs / 3)))))
-    a in
-    record {
-      few = r.few_jobs;
-      pairs = omega (arith, pairs);
-      releases = λ j l.
-          (yes_says
-          (says_and (le_says (modified_release (plan jobs arcs sections times) j) latest) (bool_says _))
-          (all-at (times_right (plan jobs arcs sections times)) (length jobs / 3) h.1.1 j l)
-          ).0;
-      costs = λ j l. (r.job_in j l).cost_in;
-    }
-
--- the deadline of a job of such a plan
-pub deadline_in : (jobs arcs sections times : List ℕ) (st : State) → in_bounds (plan jobs arcs sections times) st ≡ true
-    → (j : ℕ) → j < length jobs / 3 → get_or jobs (3 * j + 2) 0 ≤ latest
-deadline_in jobs arcs sections times st h j l =
-    ((bounds_rows (plan jobs arcs sections times) (both (plan jobs arcs sections times) st h).0).0.job_in j l).deadline_in
+  -- where a step can be taken
+  pub step_fit : step_fault p st ≡ None → Fit p st × (st.tick < last_tick)
+  step_fit q = let (a, b, l) = step_good p st q in (plan_fit p a st (state_same b), l)

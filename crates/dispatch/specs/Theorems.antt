@@ -1,48 +1,23 @@
 -- What follows from the promises: each settles its results, a run is single steps, and a step is one tick.
-use Rattle.std.specs.Prelude.{◌≡◌, refl, Bool, true, false, cond, List, ℕ, ◌+◌, ◌≤◌, ◌<◌, length, get_or, set, replicate}
+use Rattle.std.specs.Prelude.{◌≡◌, refl, Bool, true, false, cond, List, ℕ, ◌+◌, ◌≤◌, ◌<◌, length, get_or, set, replicate, ℤ, Option, None, Some, Result, Ok, Err}
 use Rattle.std.proofs.Common.{sym, ◌∙◌, ap, arith, length-set, get_or-set_same, get_or-set_other}
-use Rattle.std.proofs.Math.Option.{Option, none, some}
 use Rattle.std.proofs.Math.Decide.{ℕ_discrete}
 use Rattle.rules.specs.Table.{Plan, State, job_count, cost, last_tick, executed}
-use Rattle.rules.specs.Refusals.{fault_of, plan_in_bounds, all_finished, step_fault}
+use Rattle.rules.specs.Refusals.{plan_in_bounds, all_finished, step_fault}
 use Rattle.rules.specs.Tick.{chosen, ends, ends_stale, mark_for, advance, move, tick}
 use Rattle.rules.specs.Run.{after_reports, all_end_by, end_state}
 use Rattle.rules.specs.declared.Refusal.{Refusal}
-use Rattle.laws.specs.Answers.{fault_settles}
+use Rattle.laws.specs.Answers.{said, said_settles}
 use Rattle.run_laws.specs.States.{Good, good, answered-is}
 use Rattle.run_laws.proofs.Theorems.{end_reached}
 use Rattle.laws.specs.Chosen.{chosen_left}
 use Rattle.rules.specs.Lists.{state}
 use Rattle.dispatch.specs.Judged.{in_bounds, JobStateIn, StateIn, state_in, in_state, step_good}
-use Rattle.dispatch.specs.Promise.{Result, said, Steps, Lists, Reach, told, Starts, Runs, asked, Lateness}
-use Rattle.dispatch.specs.declared.Ran.{Ran}
-use Rattle.dispatch.specs.declared.Ran.TheVariants.{Job, Idle}
+use Rattle.dispatch.specs.Going.{may_set_long}
+use Rattle.dispatch.specs.Promise.{Did, Steps, Lists, Reach, told, Starts, Runs, Lateness}
 use Rattle.dispatch.specs.declared.Stepped.{Stepped}
-use Rattle.dispatch.specs.declared.Reached.{Reached}
-use Rattle.dispatch.specs.declared.Reached.TheVariants.{Tick}
-use Rattle.dispatch.specs.declared.Late.{Late}
-use Rattle.dispatch.specs.declared.Late.TheVariants.{By, Unfinished}
 
 -- ---- settled: two results that a promise allows are one
-
-apart : {A : Type 0} → ◌≡◌ {A = ℕ} 0 1 → A
-apart z = absurd (omega arith)
-
-refusal_one : (f g : Refusal) → some (fault_of f) ≡ some (fault_of g) → f ≡ g
-refusal_one f g e = fault_settles f g (cc)
-
-said-one : (a b : Ran) (s t : State) → said a s ≡ said b t → (a ≡ b) × (s ≡ t)
-said-one (Job i) (Job j) s t e =
-    (ap Job (let q : some i ≡ some j = ap (λ (r : Result). r.ran) e in cc), ap (λ (r : Result). r.after) e)
-said-one (Job i) Idle s t e = apart (let q : some i ≡ none = ap (λ (r : Result). r.ran) e in cc)
-said-one (Job i) (Ran.Refused g) s t e = apart (let q : none ≡ some (fault_of g) = ap (λ (r : Result). r.refusal) e in cc)
-said-one Idle (Job j) s t e = apart (let q : none ≡ some j = ap (λ (r : Result). r.ran) e in cc)
-said-one Idle Idle s t e = (refl, ap (λ (r : Result). r.after) e)
-said-one Idle (Ran.Refused g) s t e = apart (let q : none ≡ some (fault_of g) = ap (λ (r : Result). r.refusal) e in cc)
-said-one (Ran.Refused f) (Job j) s t e = apart (let q : some (fault_of f) ≡ none = ap (λ (r : Result). r.refusal) e in cc)
-said-one (Ran.Refused f) Idle s t e = apart (let q : some (fault_of f) ≡ none = ap (λ (r : Result). r.refusal) e in cc)
-said-one (Ran.Refused f) (Ran.Refused g) s t e =
-    (ap Ran.Refused (refusal_one f g (ap (λ (r : Result). r.refusal) e)), ap (λ (r : Result). r.after) e)
 
 -- the tick and what the step did are all that `step` answers
 step-one : (r r' : Stepped) → r.tick ≡ r'.tick → r.ran ≡ r'.ran → r ≡ r'
@@ -55,39 +30,25 @@ pub step_settled : (p : Plan) (st : State) (silent : Bool) (r r' : Stepped) (e m
     → Steps p st silent r (state r.tick e m f) → Steps p st silent r' (state r'.tick e' m' f')
     → (r ≡ r') × (e ≡ e') × (m ≡ m') × (f ≡ f')
 step_settled p st silent r r' e m f e' m' f' x y =
-    let (ran, after) = said-one r.ran r'.ran (state r.tick e m f) (state r'.tick e' m' f') (x.is ∙ sym y.is) in (
-      step-one r r' (ap (λ (s : State). s.tick) after) ran,
+    let q = x.is ∙ sym y.is in
+    let after : state r.tick e m f ≡ state r'.tick e' m' f' = ap (λ (d : Did). d.after) q in (
+      step-one r r' (ap (λ (s : State). s.tick) after) (said_settles r.ran r'.ran (ap (λ (d : Did). d.ran) q)),
       ap (λ (s : State). s.executed) after,
       ap (λ (s : State). s.marks) after,
       ap (λ (s : State). s.finish) after,
     )
 
-told-one : (a b : Reached) (l m : Lists) → told a l ≡ told b m → (a ≡ b) × (l ≡ m)
-told-one (Tick i) (Tick j) l m e = (ap Tick (ap (λ (r : Reach). r.tick) e), ap (λ (r : Reach). r.lent) e)
-told-one (Tick i) (Reached.Refused g) l m e = apart (let q : none ≡ some (fault_of g) = ap (λ (r : Reach). r.refusal) e in cc)
-told-one (Reached.Refused f) (Tick j) l m e = apart (let q : some (fault_of f) ≡ none = ap (λ (r : Reach). r.refusal) e in cc)
-told-one (Reached.Refused f) (Reached.Refused g) l m e =
-    (ap Reached.Refused (refusal_one f g (ap (λ (r : Reach). r.refusal) e)), ap (λ (r : Reach). r.lent) e)
+told-one : (a b : Result ℕ Refusal) (l m : Lists) → told a l ≡ told b m → (a ≡ b) × (l ≡ m)
+told-one a b l m e = (said_settles a b (ap (λ (r : Reach). r.tick) e), ap (λ (r : Reach). r.lent) e)
 
-pub start_settled : (p : Plan) (l : Lists) (r r' : Reached) (a a' : Lists) → Starts p l r a → Starts p l r' a' → (r ≡ r') × (a ≡ a')
+pub start_settled : (p : Plan) (l : Lists) (r r' : Result ℕ Refusal) (a a' : Lists) → Starts p l r a → Starts p l r' a' → (r ≡ r') × (a ≡ a')
 start_settled p l r r' a a' x y = told-one r r' a a' (x.is ∙ sym y.is)
 
-pub run_settled : (p : Plan) (l : Lists) (r r' : Reached) (a a' : Lists) → Runs p l r a → Runs p l r' a' → (r ≡ r') × (a ≡ a')
+pub run_settled : (p : Plan) (l : Lists) (r r' : Result ℕ Refusal) (a a' : Lists) → Runs p l r a → Runs p l r' a' → (r ≡ r') × (a ≡ a')
 run_settled p l r r' a a' x y = told-one r r' a a' (x.is ∙ sym y.is)
 
-asked-one : (a b : Late) → asked a ≡ asked b → a ≡ b
-asked-one (By m) (By n) e = ap By (cc)
-asked-one (By m) Unfinished e = apart (cc)
-asked-one (By m) (Late.Refused g) e = apart (cc)
-asked-one Unfinished (By n) e = apart (cc)
-asked-one Unfinished Unfinished e = refl
-asked-one Unfinished (Late.Refused g) e = apart (cc)
-asked-one (Late.Refused f) (By n) e = apart (cc)
-asked-one (Late.Refused f) Unfinished e = apart (cc)
-asked-one (Late.Refused f) (Late.Refused g) e = ap Late.Refused (fault_settles f g (cc))
-
-pub lateness_settled : (p : Plan) (st : State) (j : ℕ) (r r' : Late) → Lateness p st j r → Lateness p st j r' → r ≡ r'
-lateness_settled p st j r r' x y = asked-one r r' (x.is ∙ sym y.is)
+pub lateness_settled : (p : Plan) (st : State) (j : ℕ) (r r' : Result (Option ℤ) Refusal) → Lateness p st j r → Lateness p st j r' → r ≡ r'
+lateness_settled p st j r r' x y = said_settles r r' (x.is ∙ sym y.is)
 
 -- ---- a run is single ticks, to the end
 
@@ -121,23 +82,23 @@ unfolding tick advance
 tick_rises p st silent = go (chosen p st)
   where
     go : (o : Option ℕ) → (move p st silent o).tick ≡ st.tick + 1
-    go none = refl
-    go (some j) = refl
+    go None = refl
+    go (Some j) = refl
 
 -- Executed ticks rise by one in the job that ran, if one did, and in no other.
 pub one_job_runs : (p : Plan) (st : State) (silent : Bool) (k : ℕ)
-    → (chosen p st ≡ some k → k < length st.executed → executed (tick p st silent) k ≡ executed st k + 1)
-    × ((chosen p st ≡ some k → ⊥) → executed (tick p st silent) k ≡ executed st k)
+    → (chosen p st ≡ Some k → k < length st.executed → executed (tick p st silent) k ≡ executed st k + 1)
+    × ((chosen p st ≡ Some k → ⊥) → executed (tick p st silent) k ≡ executed st k)
 unfolding tick advance
 one_job_runs p st silent k = go (chosen p st)
   where
     go : (o : Option ℕ)
-        → (o ≡ some k → k < length st.executed → executed (move p st silent o) k ≡ executed st k + 1)
-        × ((o ≡ some k → ⊥) → executed (move p st silent o) k ≡ executed st k)
-    go none = ((λ e l. apart (cc)), (λ n. refl))
-    go (some j) = (
+        → (o ≡ Some k → k < length st.executed → executed (move p st silent o) k ≡ executed st k + 1)
+        × ((o ≡ Some k → ⊥) → executed (move p st silent o) k ≡ executed st k)
+    go None = ((λ e l. cc), (λ n. refl))
+    go (Some j) = (
       (λ e l. let q : j ≡ k = cc in rw q (get_or-set_same st.executed k (executed st k + 1) 0 l)),
-      (λ n. get_or-set_other st.executed j k (executed st j + 1) 0 (λ q. n (ap some (sym q)))),
+      (λ n. get_or-set_other st.executed j k (executed st j + 1) 0 (λ q. n (ap Some (sym q)))),
     )
 
 set_most : (l : List ℕ) (j v k m : ℕ) → k < length l → v ≤ m → get_or l k 0 ≤ m → get_or (set l j v) k 0 ≤ m
@@ -145,16 +106,12 @@ set_most l j v k m h x y =
     elim (ℕ_discrete k j)
     [ yes q ↦ rw q (omega (arith, get_or-set_same l j v 0 (omega arith))) | no q ↦ omega (arith, get_or-set_other l j k v 0 q) ]
 
-may_set_long : (b : Bool) (l : List ℕ) (j v : ℕ) → length (cond b (set l j v) l) ≡ length l
-may_set_long true l j v = length-set l j v
-may_set_long false l j v = refl
-
 may_set_most : (b : Bool) (l : List ℕ) (j v k m : ℕ) → k < length l → v ≤ m → get_or l k 0 ≤ m → get_or (cond b (set l j v) l) k 0 ≤ m
 may_set_most true l j v k m h x y = set_most l j v k m h x y
 may_set_most false l j v k m h x y = y
 
 -- A good step keeps within 12's bounds.
-pub good_step : (p : Plan) (st : State) (silent : Bool) → step_fault p st ≡ none → in_bounds p (tick p st silent) ≡ true
+pub good_step : (p : Plan) (st : State) (silent : Bool) → step_fault p st ≡ None → in_bounds p (tick p st silent) ≡ true
 unfolding in_bounds tick advance
 good_step p st silent e =
     let (a, b, l) = step_good p st e in
@@ -165,7 +122,7 @@ good_step p st silent e =
     mark-small false = omega arith
 
     -- who ran had executed less than its cost
-    ran_most : (j : ℕ) → chosen p st ≡ some j → (k : ℕ) → k < length st.executed → executed st k ≤ cost p.table k
+    ran_most : (j : ℕ) → chosen p st ≡ Some j → (k : ℕ) → k < length st.executed → executed st k ≤ cost p.table k
         → get_or (set st.executed j (executed st j + 1)) k 0 ≤ cost p.table k
     ran_most j c k h x =
         elim (ℕ_discrete k j) [
@@ -176,7 +133,7 @@ good_step p st silent e =
         ]
 
     -- what the tick of job j leaves of each job
-    after : (j : ℕ) → chosen p st ≡ some j → (i : StateIn p st) → st.tick < last_tick → (k : ℕ) → k < job_count p.table
+    after : (j : ℕ) → chosen p st ≡ Some j → (i : StateIn p st) → st.tick < last_tick → (k : ℕ) → k < job_count p.table
         → JobStateIn p (advance p st silent j) k
     after j c i l k h =
         let w = i.job_in k h in
@@ -187,7 +144,7 @@ good_step p st silent e =
         }
 
     go : (o : Option ℕ) → chosen p st ≡ o → StateIn p st → st.tick < last_tick → StateIn p (move p st silent o)
-    go none c i l =
+    go None c i l =
         record {
           executed_long = i.executed_long;
           marks_long = i.marks_long;
@@ -195,7 +152,7 @@ good_step p st silent e =
           tick_in = omega arith;
           job_in = λ k h. let w = i.job_in k h in record { executed_in = w.executed_in; mark_in = w.mark_in; finish_in = w.finish_in };
         }
-    go (some j) c i l =
+    go (Some j) c i l =
         record {
           executed_long = length-set st.executed j (executed st j + 1) ∙ i.executed_long;
           marks_long = may_set_long (ends p st j) st.marks j (mark_for (ends_stale p st j silent)) ∙ i.marks_long;

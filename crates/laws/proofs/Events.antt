@@ -1,8 +1,7 @@
 -- What holds between two events: the same choice is made, so many ticks are taken at once.
 use Rattle.std.specs.Prelude.{◌≡◌, refl, ◌≢◌, ◌⊎◌, Bool, true, false, ◌&&◌, List, [], ◌∷◌, ◌++◌, length, replicate}
 use Rattle.std.proofs.Math.Path.{sym}
-use Rattle.std.proofs.Common.{◌∙◌, ap, ⊎_elim, get_or-set_same, get_or-set_other, ne_eqb}
-use Rattle.std.proofs.Math.Option.{Option, none, some}
+use Rattle.std.proofs.Common.{◌∙◌, ap, ⊎_elim, get_or-set_same, get_or-set_other, ne_eqb, Option, None, Some}
 use Prim.Native.Nat.{ℕ, zero, suc, ◌+◌, ◌-◌, ◌≤◌, ◌<◌}
 use Rattle.std.proofs.Math.Decide.{ℕ_discrete}
 use native.Mathlib.Omega.{arith}
@@ -98,19 +97,19 @@ module _ (p : Plan) (st st' : State) (N : NoEvent p st st') where
   same_first = first_ext (comes_before p) (pending p st) (pending p st') (job_count p.table) pending_same
 
   -- Who was chosen is chosen again, if it has run since then, and nobody else has.
-  module _ (o : Option ℕ) (ran : (j : ℕ) → o ≡ some j → started st' j ≡ true) (others : (i : ℕ) → o ≢ some i → executed st' i ≡ executed st i) where
+  module _ (o : Option ℕ) (ran : (j : ℕ) → o ≡ Some j → started st' j ≡ true) (others : (i : ℕ) → o ≢ Some i → executed st' i ≡ executed st i) where
     -- where the chosen job was started already, the same jobs are started
     started_again : first_started p st ≡ o → (i : ℕ) → started st i ≡ started st' i
     started_again w i = go o refl
       where
         go : (a : Option ℕ) → o ≡ a → started st i ≡ started st' i
-        go none e = started_same st st' i (others i (λ q. let z : ◌≡◌ {A = ℕ} 0 1 = cc in omega arith))
-        go (some j) e =
+        go None e = started_same st st' i (others i (λ q. let z : ◌≡◌ {A = ℕ} 0 1 = cc in omega arith))
+        go (Some j) e =
             elim (ℕ_discrete i j) [
               | yes q ↦
                   (let (l, h, b) = first-started-told p st j (w ∙ e) in
                   rw q (b ∙ sym (ran j e)))
-              | no q ↦ started_same st st' i (others i (λ f. q (let g : some i ≡ some j = sym f ∙ e in cc)))
+              | no q ↦ started_same st st' i (others i (λ f. q (let g : Some i ≡ Some j = sym f ∙ e in cc)))
             ]
 
     same_first_started : first_started p st ≡ o → first_started p st' ≡ o
@@ -169,19 +168,19 @@ module _ (p : Plan) (st : State) (j : ℕ) (l : j < length st.executed) where
       }
 
   -- The same job is chosen in each of the n ticks.
-  pub choice_stays : (n : ℕ) → chosen p st ≡ some j → Quiet p st j n → (k : ℕ) → k < n → chosen p (given st j k) ≡ some j
+  pub choice_stays : (n : ℕ) → chosen p st ≡ Some j → Quiet p st j n → (k : ℕ) → k < n → chosen p (given st j k) ≡ Some j
   unfolding started
   choice_stays n c Q zero h = rw given-none c
   choice_stays n c Q (suc k) h =
-      choice_again p st (given st j (suc k)) (quiet_no_event n (suc k) Q h) (some j)
+      choice_again p st (given st j (suc k)) (quiet_no_event n (suc k) Q h) (Some j)
       (λ x e. let q : j ≡ x = cc in rw (← q) (yes_of (lt_says 0 (executed (given st j (suc k)) j)) (λ a. omega (arith, given-own (suc k)))))
-      (λ i d. given_other (suc k) i (λ q. d (ap some (sym q))))
+      (λ i d. given_other (suc k) i (λ q. d (ap Some (sym q))))
       c
 
 -- ---- idle time to the next release
 
 -- The n ticks are idle, if the first is.
-pub idle_stays : (p : Plan) (st : State) (n : ℕ) → chosen p st ≡ none → Unreleased p st n → (k : ℕ) → k < n → chosen p (idled st k) ≡ none
+pub idle_stays : (p : Plan) (st : State) (n : ℕ) → chosen p st ≡ None → Unreleased p st n → (k : ℕ) → k < n → chosen p (idled st k) ≡ None
 idle_stays p st n c free k h =
     choice_again p st (idled st k)
     (record {
@@ -191,7 +190,7 @@ idle_stays p st n c free k h =
       no_finish = λ i u. u;
       no_end = λ s a u. u;
     })
-    none
+    None
     (λ j e. let z : ◌≡◌ {A = ℕ} 0 1 = cc in absurd (omega arith))
     (λ i d. refl)
     c
@@ -227,7 +226,7 @@ module _ (p : Plan) (st : State) (j : ℕ) (l : j < length st.executed) where
   unfolding advance_by
   advance_unended silent k n = rw (ne_eqb (executed st j + k) (cost p.table j) n)
 
-  module _ (n : ℕ) (c : chosen p st ≡ some j) (Q : Quiet p st j n) where
+  module _ (n : ℕ) (c : chosen p st ≡ Some j) (Q : Quiet p st j n) where
     tick-given : (silent : Bool) (k : ℕ) → k < n → tick p (given st j k) silent ≡ advance_by p st silent j (suc k)
     tick-given silent k h = sym (tick_runs p (given st j k) silent j (choice_stays p st j l n c Q k h)) ∙ advance-given silent k
 
@@ -260,7 +259,7 @@ module _ (p : Plan) (st : State) (j : ℕ) (l : j < length st.executed) where
         rw (replicate-append-replicate (n - 1) 1 false, r, a, b) at (ticks_at_once (replicate (n - 1) false) false (omega arith))
 
 -- idle ticks write nothing
-module _ (p : Plan) (st : State) (n : ℕ) (c : chosen p st ≡ none) (free : Unreleased p st n) where
+module _ (p : Plan) (st : State) (n : ℕ) (c : chosen p st ≡ None) (free : Unreleased p st n) where
   pub ticks_idle : (rs : List Bool) → length rs ≤ n → onward p st rs ≡ idled st (length rs)
   ticks_idle rs h =
       let t : st.tick + 0 ≡ st.tick = omega arith in

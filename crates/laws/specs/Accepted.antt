@@ -1,7 +1,6 @@
 -- The plan of an accepted table: its times lie within their bounds and agree with the arcs.
-use Rattle.std.specs.Prelude.{◌≡◌, true, ◌++◌, ℕ, ◌+◌, ◌*◌, ◌≤◌, ◌<◌, length}
+use Rattle.std.specs.Prelude.{◌≡◌, true, ◌++◌, ℕ, ◌+◌, ◌*◌, ◌≤◌, ◌<◌, length, None}
 use Rattle.std.proofs.Common.{append_assoc, arith, eq-eqb}
-use Rattle.std.proofs.Math.Option.{none}
 use Rattle.rules.specs.Table.{Table, job_count, cost, deadline, precedes, modified_release, modified_deadline}
 use Rattle.rules.specs.Times.{lift, new_release, lifted_deadline, times_to}
 use Rattle.rules.specs.Refusals.{count_faults, row_faults, plan_faults, check_fault, plan_of, times_right, plan_in_bounds}
@@ -73,7 +72,7 @@ module _ (t : Table) (A : Accepted t) where
   ancestors-before {i} {j} a = yes_of (before_says (plan_of t) i j) (λ n. n (by_deadline (consistent a).1))
 
 -- a plan made by the check is never refused with 12
-pub plan_in_bounds_lem : (t : Table) → check_fault t ≡ none → plan_in_bounds (plan_of t) ≡ true
+pub plan_in_bounds_lem : (t : Table) → check_fault t ≡ None → plan_in_bounds (plan_of t) ≡ true
 unfolding plan_in_bounds plan_of check_fault
 plan_in_bounds_lem t e =
     let A = accepted_facts t e in

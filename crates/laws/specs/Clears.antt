@@ -1,7 +1,6 @@
 -- Ceilings: a resource's is the smallest span of the jobs with a section on it; and the laws of `clears`.
-use Rattle.std.specs.Prelude.{◌≡◌, refl, ◌≢◌, ◌⊎◌, Bool, true, false, ℕ, ◌+◌, ◌≤◌, ◌<◌, ltb}
+use Rattle.std.specs.Prelude.{◌≡◌, refl, ◌≢◌, ◌⊎◌, Bool, true, false, ℕ, ◌+◌, ◌≤◌, ◌<◌, ltb, Option, None, Some}
 use Rattle.std.proofs.Common.{inl, inr, arith}
-use Rattle.std.proofs.Math.Option.{Option, none, some}
 use Rattle.std.proofs.Math.Dec.{eqb}
 use Rattle.rules.specs.Table.{Plan, State, resources, section_count, owner, resource, span}
 use Rattle.rules.specs.Tick.{tightest, span_of, ceiling, below_ceiling, units, held, clears, may_start}
@@ -32,9 +31,9 @@ module _ (p : Plan) where
 
   -- A ceiling is the smallest span of the jobs with a section on q; there is none where nobody has one.
   pub data CeilingOf (q : ℕ) : Option ℕ → Type 0 where
-    no_section : ((s : ℕ) → SectionOn q s → ⊥) → CeilingOf q none
+    no_section : ((s : ℕ) → SectionOn q s → ⊥) → CeilingOf q None
     smallest-span : (s : ℕ) → SectionOn q s → ((k : ℕ) → SectionOn q k → span p (owner p.table s) ≤ span p (owner p.table k))
-        → CeilingOf q (some (span p (owner p.table s)))
+        → CeilingOf q (Some (span p (owner p.table s)))
 
   by_span : ℕ → ℕ → Bool
   by_span a b = ltb (span p (owner p.table a)) (span p (owner p.table b))

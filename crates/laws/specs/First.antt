@@ -1,8 +1,7 @@
 -- `first` finds the first: what its answer says, over any order that is irreflexive and transitive.
-use Rattle.std.specs.Prelude.{◌≡◌, ◌⊎◌, Bool, true, false, cond}
+use Rattle.std.specs.Prelude.{◌≡◌, ◌⊎◌, Bool, true, false, cond, Option, None, Some}
 use Rattle.std.proofs.Math.Path.{refl}
 use Rattle.std.proofs.Common.{inl, inr, add-one, arith}
-use Rattle.std.proofs.Math.Option.{Option, none, some}
 use Prim.Native.Nat.{ℕ, zero, suc, ◌+◌, ◌<◌}
 use Rattle.rules.specs.Rows.{better, first}
 use Rattle.laws.specs.Tests.{tested, clash}
@@ -15,9 +14,9 @@ first_more before passes n = rw add-one
 -- the four ways in which `better` answers, each with what was tested
 pub data Better (before : ℕ → ℕ → Bool) (n : ℕ) : Bool → Option ℕ → Option ℕ → Type 0 where
   kept : {o : Option ℕ} → Better before n false o o
-  opened : Better before n true none (some n)
-  passed : {old : ℕ} → before n old ≡ true → Better before n true (some old) (some n)
-  stayed : {old : ℕ} → before n old ≡ false → Better before n true (some old) (some old)
+  opened : Better before n true None (Some n)
+  passed : {old : ℕ} → before n old ≡ true → Better before n true (Some old) (Some n)
+  stayed : {old : ℕ} → before n old ≡ false → Better before n true (Some old) (Some old)
 
 -- a way tells the answer, and each answer has a way
 pub better-is : {before : ℕ → ℕ → Bool} {n : ℕ} {b : Bool} {o r : Option ℕ} → Better before n b o r → better before b n o ≡ r
@@ -30,10 +29,10 @@ better-is (stayed e) = rw e
 better_view : (before : ℕ → ℕ → Bool) (n : ℕ) (b : Bool) (o : Option ℕ) → Better before n b o (better before b n o)
 unfolding better
 better_view before n false o = kept
-better_view before n true none = opened
-better_view before n true (some old) = go (before n old) refl
+better_view before n true None = opened
+better_view before n true (Some old) = go (before n old) refl
   where
-    go : (b : Bool) → before n old ≡ b → Better before n true (some old) (cond b (some n) (some old))
+    go : (b : Bool) → before n old ≡ b → Better before n true (Some old) (cond b (Some n) (Some old))
     go true e = passed e
     go false e = stayed e
 
@@ -44,8 +43,8 @@ pub record Order (before : ℕ → ℕ → Bool) : Type 0 where
 
 -- nobody passes; or x passes, is below n, and nobody that passes comes before it
 pub data FirstOf (before : ℕ → ℕ → Bool) (passes : ℕ → Bool) (n : ℕ) : Option ℕ → Type 0 where
-  nobody : ((k : ℕ) → k < n → passes k ≡ false) → FirstOf before passes n none
-  found : {x : ℕ} → x < n → passes x ≡ true → ((k : ℕ) → k < n → passes k ≡ true → before k x ≡ false) → FirstOf before passes n (some x)
+  nobody : ((k : ℕ) → k < n → passes k ≡ false) → FirstOf before passes n None
+  found : {x : ℕ} → x < n → passes x ≡ true → ((k : ℕ) → k < n → passes k ≡ true → before k x ≡ false) → FirstOf before passes n (Some x)
 
 module _ (before : ℕ → ℕ → Bool) (passes : ℕ → Bool) (O : Order before) where
   turn : (n : ℕ) {b : Bool} {o r : Option ℕ} → Better before n b o r → passes n ≡ b → FirstOf before passes n o → FirstOf before passes (suc n) r
@@ -67,7 +66,7 @@ module _ (before : ℕ → ℕ → Bool) (passes : ℕ → Bool) (O : Order befo
 
 -- who is found is below n and passes
 pub first-told : {before : ℕ → ℕ → Bool} {passes : ℕ → Bool} {n : ℕ} {o : Option ℕ} → FirstOf before passes n o
-    → (j : ℕ) → o ≡ some j → (j < n) × (passes j ≡ true)
+    → (j : ℕ) → o ≡ Some j → (j < n) × (passes j ≡ true)
 first-told (nobody h) j e = let z : ◌≡◌ {A = ℕ} 0 1 = cc in absurd (omega arith)
 first-told (found {x} l p h) j e = let q : x ≡ j = cc in rw (← q) (l, p)
 

@@ -1,6 +1,7 @@
 -- What follows from the rules and is cited by both proofs of code and theorems.
 pub mod Tests
 pub mod Rows
+pub mod Ranges
 pub mod First
 pub mod Order
 pub mod Clears
@@ -16,3 +17,4 @@ pub mod Answers
 pub mod Digits
 pub mod Text
 pub mod Lines
+pub mod Compared

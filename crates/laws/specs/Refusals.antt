@@ -1,7 +1,6 @@
 -- What an accepted table and a plan within its bounds are known to be, as facts.
-use Rattle.std.specs.Prelude.{◌≡◌, refl, Bool, true, false, List, [], ◌∷◌, ◌++◌, ℕ, ◌+◌, ◌*◌, ◌%◌, ◌≤◌, ◌<◌, length}
+use Rattle.std.specs.Prelude.{◌≡◌, refl, Bool, true, false, List, [], ◌∷◌, ◌++◌, ℕ, ◌+◌, ◌*◌, ◌%◌, ◌≤◌, ◌<◌, length, Option, None, Some}
 use Rattle.std.proofs.Common.{⊎_elim, append_assoc, arith}
-use Rattle.std.proofs.Math.Option.{Option, none, some}
 use Rattle.rules.specs.Rows.{all, lowest}
 use Rattle.rules.specs.Table.{
   Table,
@@ -73,29 +72,29 @@ use Rattle.laws.specs.Rows.{Lowest, lowest-told, all-at}
 -- where no refusal is found, each stage finds none
 abbrev pub AllNone : List (Option Fault) → Type 0
 AllNone [] = Unit {0}
-AllNone (o ∷ later) = (o ≡ none) × AllNone later
+AllNone (o ∷ later) = (o ≡ None) × AllNone later
 
-pub all_none : (xs : List (Option Fault)) → first_of xs ≡ none → AllNone xs
+pub all_none : (xs : List (Option Fault)) → first_of xs ≡ None → AllNone xs
 all_none [] e = tt
-all_none (none ∷ xs) e = (refl, all_none xs e)
-all_none (some f ∷ xs) e = let z : ◌≡◌ {A = ℕ} 0 1 = cc in absurd (omega arith)
+all_none (None ∷ xs) e = (refl, all_none xs e)
+all_none (Some f ∷ xs) e = let z : ◌≡◌ {A = ℕ} 0 1 = cc in absurd (omega arith)
 
-pub first_of_append : (xs ys : List (Option Fault)) → first_of (xs ++ ys) ≡ none → (first_of xs ≡ none) × (first_of ys ≡ none)
+pub first_of_append : (xs ys : List (Option Fault)) → first_of (xs ++ ys) ≡ None → (first_of xs ≡ None) × (first_of ys ≡ None)
 first_of_append [] ys e = (refl, e)
-first_of_append (none ∷ xs) ys e = first_of_append xs ys e
-first_of_append (some f ∷ xs) ys e = let z : ◌≡◌ {A = ℕ} 0 1 = cc in absurd (omega arith)
+first_of_append (None ∷ xs) ys e = first_of_append xs ys e
+first_of_append (Some f ∷ xs) ys e = let z : ◌≡◌ {A = ℕ} 0 1 = cc in absurd (omega arith)
 
 -- a stage that finds nothing
-pub demand-none : (b : Bool) (n : ℕ) → demand b n ≡ none → b ≡ true
+pub demand-none : (b : Bool) (n : ℕ) → demand b n ≡ None → b ≡ true
 demand-none true n e = refl
 demand-none false n e = let z : ◌≡◌ {A = ℕ} 0 1 = cc in absurd (omega arith)
 
-pub rows_none : (n : ℕ) (f : ℕ → Bool) (m : ℕ) → at_row n (lowest f m) ≡ none → (k : ℕ) → k < m → f k ≡ false
+pub rows_none : (n : ℕ) (f : ℕ → Bool) (m : ℕ) → at_row n (lowest f m) ≡ None → (k : ℕ) → k < m → f k ≡ false
 rows_none n f m e = go (lowest f m) (lowest-told f m) e
   where
-    go : (o : Option ℕ) → Lowest f m o → at_row n o ≡ none → (k : ℕ) → k < m → f k ≡ false
-    go none h q = h
-    go (some i) h q = let z : ◌≡◌ {A = ℕ} 0 1 = cc in absurd (omega arith)
+    go : (o : Option ℕ) → Lowest f m o → at_row n o ≡ None → (k : ℕ) → k < m → f k ≡ false
+    go None h q = h
+    go (Some i) h q = let z : ◌≡◌ {A = ℕ} 0 1 = cc in absurd (omega arith)
 
 -- ---- rules 2 to 7, as facts
 
@@ -165,7 +164,7 @@ section_says t s =
     (le_says resources (resource t s))
     (says_or (le_says (to t s) (from t s)) (lt_says (cost t (owner t s)) (to t s)))))
 
-pub rows_right : (t : Table) → first_of (count_faults t ++ row_faults t) ≡ none → RowsRight t
+pub rows_right : (t : Table) → first_of (count_faults t ++ row_faults t) ≡ None → RowsRight t
 unfolding count_faults row_faults
 rows_right t e =
     let h : AllNone (count_faults t ++ row_faults t) = all_none (count_faults t ++ row_faults t) e in
@@ -194,9 +193,9 @@ rows_right t e =
 
 -- ---- a plan within its bounds
 
-accepted-none : (o : Option Fault) → accepted o ≡ true → o ≡ none
-accepted-none none e = refl
-accepted-none (some f) e = let z : ◌≡◌ {A = ℕ} 0 1 = cc in absurd (omega arith)
+accepted-none : (o : Option Fault) → accepted o ≡ true → o ≡ None
+accepted-none None e = refl
+accepted-none (Some f) e = let z : ◌≡◌ {A = ℕ} 0 1 = cc in absurd (omega arith)
 
 -- what `times_right` tests, as facts
 pub record TimesIn (p : Plan) (j : ℕ) : Type 0 where
@@ -244,16 +243,16 @@ pub record Accepted (t : Table) : Type 0 where
   pub acyclic : (j : ℕ) → j < job_count t → on_cycle t j ≡ false
   pub wide : (j : ℕ) → j < job_count t → lift + new_release t j + cost t j ≤ lifted_deadline t j
 
-unless-gives : {A : Type 0} (o : Option Fault) (a b : A) → unless o a ≡ gives b → (o ≡ none) × (a ≡ b)
-unless-gives none a b e = (refl, cc)
-unless-gives (some f) a b e = let z : ◌≡◌ {A = ℕ} 0 1 = cc in absurd (omega arith)
+unless-gives : {A : Type 0} (o : Option Fault) (a b : A) → unless o a ≡ gives b → (o ≡ None) × (a ≡ b)
+unless-gives None a b e = (refl, cc)
+unless-gives (Some f) a b e = let z : ◌≡◌ {A = ℕ} 0 1 = cc in absurd (omega arith)
 
 -- what the check accepts, it gives the plan of
-pub check-gives : (t : Table) (p : Plan) → check t ≡ gives p → (check_fault t ≡ none) × (plan_of t ≡ p)
+pub check-gives : (t : Table) (p : Plan) → check t ≡ gives p → (check_fault t ≡ None) × (plan_of t ≡ p)
 unfolding check
 check-gives t p e = unless-gives (check_fault t) (plan_of t) p e
 
-pub accepted_facts : (t : Table) → check_fault t ≡ none → Accepted t
+pub accepted_facts : (t : Table) → check_fault t ≡ None → Accepted t
 unfolding check_fault plan_faults too_short
 accepted_facts t e =
     let front = first_of_append (count_faults t ++ row_faults t) (plan_faults t) (rw (append_assoc (count_faults t) (row_faults t) (plan_faults t)) e) in

@@ -1,9 +1,8 @@
 -- Laws of what is said of rows: all, any, counts, sums, the largest, the smallest, the lowest.
-use Rattle.std.specs.Prelude.{◌≡◌, ◌≢◌, Bool, cond}
+use Rattle.std.specs.Prelude.{◌≡◌, ◌≢◌, Bool, cond, Option, None, Some}
 use Rattle.std.proofs.Math.Path.{refl, ap}
 use Rattle.std.proofs.Common.{sym, ◌∙◌, ⊎_elim}
 use Rattle.std.proofs.Math.Bool.{true, false}
-use Rattle.std.proofs.Math.Option.{Option, none, some}
 use Prim.Native.Nat.{ℕ, zero, suc, ◌+◌, ◌*◌, ◌≤◌, ◌<◌, min, max}
 use Rattle.std.proofs.Math.Numerals.{add-one}
 use Rattle.std.proofs.Math.Decide.{ℕ_discrete, dec_lt}
@@ -269,15 +268,15 @@ module _ (passes passes' : ℕ → Bool) (f g : ℕ → ℕ) (base : ℕ) where
 
 -- what an answer says
 abbrev pub Lowest : (ℕ → Bool) → ℕ → Option ℕ → Type 0
-Lowest f n none = (k : ℕ) → k < n → f k ≡ false
-Lowest f n (some i) = (i < n) × (f i ≡ true) × ((k : ℕ) → k < i → f k ≡ false)
+Lowest f n None = (k : ℕ) → k < n → f k ≡ false
+Lowest f n (Some i) = (i < n) × (f i ≡ true) × ((k : ℕ) → k < i → f k ≡ false)
 
 module _ (f : ℕ → Bool) where
   lowest_turn : (n : ℕ) (o : Option ℕ) (b : Bool) → f n ≡ b → Lowest f n o → Lowest f (suc n) (or_else o b n)
   unfolding or_else
-  lowest_turn n (some k) b e h = (omega arith, h.1, h.2)
-  lowest_turn n none true e h = (omega arith, e, h)
-  lowest_turn n none false e h = below_suc _ n h e
+  lowest_turn n (Some k) b e h = (omega arith, h.1, h.2)
+  lowest_turn n None true e h = (omega arith, e, h)
+  lowest_turn n None false e h = below_suc _ n h e
 
   pub lowest-told : (n : ℕ) → Lowest f n (lowest f n)
   unfolding lowest
@@ -286,13 +285,13 @@ module _ (f : ℕ → Bool) where
 
   -- only one answer is so
   lowest-one : (n : ℕ) (a b : Option ℕ) → Lowest f n a → Lowest f n b → a ≡ b
-  lowest-one n none none p q = refl
-  lowest-one n none (some j) p q = clash q.1 (p j q.0)
-  lowest-one n (some i) none p q = clash p.1 (q i p.0)
-  lowest-one n (some i) (some j) p q =
+  lowest-one n None None p q = refl
+  lowest-one n None (Some j) p q = clash q.1 (p j q.0)
+  lowest-one n (Some i) None p q = clash p.1 (q i p.0)
+  lowest-one n (Some i) (Some j) p q =
       elim (dec_lt i j) [
         | yes h ↦ clash p.1 (q.2 i h)
-        | no g ↦ elim (dec_lt j i) [ yes h ↦ clash q.1 (p.2 j h) | no h ↦ ap some (omega arith) ]
+        | no g ↦ elim (dec_lt j i) [ yes h ↦ clash q.1 (p.2 j h) | no h ↦ ap Some (omega arith) ]
       ]
 
   -- what a loop finds by an early return is the definition's answer

@@ -1,9 +1,8 @@
 -- A table and its text: what is written is read back, and what is read is what is written, values by values and part by part.
-use Rattle.std.specs.Prelude.{◌≡◌, Bool, true, false, cond, ◌&&◌, List, [], ◌∷◌, ◌++◌, ℕ, zero, suc, ◌+◌, ◌*◌, ◌/◌, ◌%◌, ◌<◌, ◌≤◌, leb, eqb, length, get_or}
+use Rattle.std.specs.Prelude.{◌≡◌, Bool, true, false, cond, ◌&&◌, List, [], ◌∷◌, ◌++◌, ℕ, zero, suc, ◌+◌, ◌*◌, ◌/◌, ◌%◌, ◌<◌, ◌≤◌, leb, eqb, length, get_or, Option, None}
 use Rattle.std.proofs.Math.Path.{refl}
 use Rattle.std.proofs.Common.{sym, ◌∙◌, ap, append_assoc, append-nil, mul-div_cancel, div-add-mod', arith, leb-true, eq-eqb, eqb-true}
 use Rattle.std.proofs.Math.Bool.{and-eq-true_iff}
-use Rattle.std.proofs.Math.Option.{Option, none}
 use Rattle.rules.specs.Table.{Table, most_jobs, most_arcs, most_sections}
 use Rattle.rules.specs.Refusals.{Fault, fault, Outcome, refused, gives, and_then, first_of, demand, count_faults}
 use Rattle.rules.specs.Text.{
@@ -265,7 +264,7 @@ pub count-fault : (t : Table)
 unfolding count_faults
 count-fault t = refl
 
-demands_met : (a b c : Bool) → count_fault a b c ≡ none → (a ≡ true) × (b ≡ true) × (c ≡ true)
+demands_met : (a b c : Bool) → count_fault a b c ≡ None → (a ≡ true) × (b ≡ true) × (c ≡ true)
 demands_met true true true e = (refl, refl, refl)
 demands_met false b c e = let z : ◌≡◌ {A = ℕ} 0 1 = cc in absurd (omega arith)
 demands_met true false c e = let z : ◌≡◌ {A = ℕ} 0 1 = cc in absurd (omega arith)
@@ -277,7 +276,7 @@ pub record AllCounted (t : Table) : Type 0 where
   pub arcs : Counted arc_part t.arcs
   pub sections : Counted section_part t.sections
 
-pub counts-is : (t : Table) → first_of (count_faults t) ≡ none → AllCounted t
+pub counts-is : (t : Table) → first_of (count_faults t) ≡ None → AllCounted t
 counts-is t e =
     let d = demands_met
     (length_right job_part (length t.jobs))
@@ -290,7 +289,7 @@ counts-is t e =
       sections = counted_is section_part t.sections d.2;
     }
 
-pub counts_back : (t : Table) → AllCounted t → first_of (count_faults t) ≡ none
+pub counts_back : (t : Table) → AllCounted t → first_of (count_faults t) ≡ None
 counts_back t c =
     rw (
       count-fault t,
@@ -303,7 +302,7 @@ counts_back t c =
 
 -- a table that a text can stand for: right counts, and 32-bit numbers
 pub record Right (t : Table) : Type 0 where
-  pub counts : first_of (count_faults t) ≡ none
+  pub counts : first_of (count_faults t) ≡ None
   pub jobs : Words t.jobs
   pub arcs : Words t.arcs
   pub sections : Words t.sections

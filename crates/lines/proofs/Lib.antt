@@ -2,6 +2,5 @@
 pub mod Powers
 pub mod Matching
 pub mod Numbers
-pub mod Table
 pub mod Stages
 pub mod Putting

@@ -8,7 +8,7 @@ use borrow.Author.Tests.{eq-eqb, ne_eqb}
 use lib.ListN.{length, get_or, drop, drop_of_length-le}
 use lib.Seq.{drop-cons}
 use Rattle.rules.specs.Text.{Front, after_bytes}
-use Rattle.lines.specs.declared.leaves.Match.TheVariants.{Whole, Stopped}
+use Rattle.std.specs.Prelude.{Ok, Err}
 use Rattle.lines.specs.Leaves.{Matched}
 
 -- what is left to match answers what the whole does
@@ -21,11 +21,11 @@ pub begun : (k t : List ℕ) → Matching k t 0
 begun k t = record { in_key = omega arith; in_text = omega arith; left = λ go. refl }
 
 module _ {k t : List ℕ} {i : ℕ} (g : Matching k t i) where
-  pub all_there : length k ≤ i → Matched k t (Whole i)
+  pub all_there : length k ≤ i → Matched k t (Ok i)
   unfolding after_bytes
   all_there h = record { within = g.in_text; says = λ go. rw (drop_of_length-le k h) at (g.left go) }
 
-  pub cut : i < length k → length t ≤ i → Matched k t (Stopped i)
+  pub cut : i < length k → length t ≤ i → Matched k t (Err record { 0 = i })
   unfolding after_bytes
   cut h l =
       record {
@@ -33,7 +33,7 @@ module _ {k t : List ℕ} {i : ℕ} (g : Matching k t i) where
         says = λ go. g.left go ∙ rw (drop-cons k i 0 h, drop_of_length-le t l);
       }
 
-  pub differs : i < length k → i < length t → (get_or t i 0 ≡ get_or k i 0 → ⊥) → Matched k t (Stopped i)
+  pub differs : i < length k → i < length t → (get_or t i 0 ≡ get_or k i 0 → ⊥) → Matched k t (Err record { 0 = i })
   unfolding after_bytes
   differs h l n =
       record {

@@ -1,17 +1,15 @@
--- The laws of `put` for the writer's loops: copied bytes, and digits from the last to the first.
-use mathlib.Core.Path.{◌≡◌, refl, sym, ◌∙◌, ap}
+-- The laws of `put` for the writer's loop: digits, from the last to the first.
+use mathlib.Core.Path.{◌≡◌, ◌∙◌, ap}
 use mathlib.Core.List.{List, [], ◌∷◌, ◌++◌, append_assoc}
 use Prim.Native.Nat.{ℕ, zero, suc, ◌+◌, ◌-◌, ◌/◌, ◌%◌, ◌^◌, ◌<◌, ◌≤◌}
-use native.Mathlib.Nat.{add-zero}
 use native.Mathlib.Numerals.{add-one}
 use native.Mathlib.Omega.{arith}
-use lib.ListN.{length, get_or, drop, set, length-append, length-set, drop_of_length-le}
+use lib.ListN.{length, set, length-append, length-set}
 use lib.Seq.{drop-cons, take-set-le, drop-set-lt, get_or-set_same, set_split}
 use Rattle.rules.specs.Text.{digits}
 use Rattle.laws.specs.Digits.{one-digit, last_digit}
-use Rattle.lines.specs.Put.{put, Over}
+use Rattle.lines.specs.Put.{put}
 use Rattle.lines.proofs.Powers.{power_least}
-use Rattle.lines.specs.Pieces.{put-none, put_first}
 
 -- the last of what is put may be stored first
 put_last : (o : List ℕ) (at : ℕ) (vs : List ℕ) (v : ℕ) → at + length vs < length o
@@ -29,37 +27,6 @@ put_last o at vs v h =
       length-append,
       s,
     )
-
--- ---- copying: o₀ at the start and o after i bytes of s; what is left to copy makes the whole
-
-pub record Copying (o₀ : List ℕ) (at : ℕ) (s o : List ℕ) (i : ℕ) : Type 0 where
-  pub within : i ≤ length s
-  pub same : length o ≡ length o₀
-  pub room : at + length s ≤ length o₀
-  pub left : put o (at + i) (drop i s) ≡ put o₀ at s
-
-pub begin : (o : List ℕ) (at : ℕ) (s : List ℕ) → at + length s ≤ length o → Copying o at s o 0
-begin o at s h = record { within = omega arith; same = refl; room = h; left = simp add-zero }
-
-module _ {o₀ : List ℕ} {at : ℕ} {s o : List ℕ} {i : ℕ} (g : Copying o₀ at s o i) where
-  pub copy : i < length s → Copying o₀ at s (set o (at + i) (get_or s i 0)) (i + 1)
-  copy h =
-      let e : at + (i + 1) ≡ at + i + 1 = omega arith in
-      record {
-        within = omega arith;
-        same = rw length-set g.same;
-        room = g.room;
-        left = rw e
-            (put_first o (at + i) (get_or s i 0) (drop (i + 1) s) (omega (arith, g.room, g.same))
-            ∙ rw add-one (rw (drop-cons s i 0 h) at g.left));
-      }
-
-  pub copied : length s ≤ i → Over o₀ at s o (at + i)
-  copied h =
-      record {
-        end = omega (arith, g.within);
-        list = sym (put-none o (at + i)) ∙ rw (drop_of_length-le s h) at g.left;
-      }
 
 -- ---- digits, from the last to the first: what is left to write, put into o, makes the whole; p is the place after it
 

@@ -2,6 +2,9 @@
 use Rattle.std.specs.Prelude.{◌≡◌, refl, List, [], ◌∷◌, ◌++◌, ℕ, suc, ◌+◌, ◌-◌, ◌<◌, ◌≤◌, length, take, drop, set}
 use Rattle.std.proofs.Common.{sym, ◌∙◌, ap, append_assoc, zero-add, add-zero, add_assoc, add-one, arith, take-append-drop, length-append, length-drop, drop-set-lt, take-suc-set, take_at, length-take-le, take_all, drop-drop}
 use Rattle.std.proofs.Math.Seq.{drop-append-add}
+use Rattle.std.proofs.lemmas.Slice.{put_mid-paste}
+use Rattle.std.proofs.lemmas.List.Edits.{paste_all}
+use borrow.Rule.Slice.PartMut.{put_mid}
 use Rattle.lines.specs.Put.{put, Over}
 
 -- nothing is put
@@ -20,6 +23,11 @@ unfolding put
 put_first o at v vs h =
     let s : suc at + length vs ≡ at + suc (length vs) = omega arith in
     simp (add-one, take-suc-set o at v h, drop-set-lt (at + suc (length vs)) o at v (omega arith), append_assoc, s)
+
+-- a part is written over
+pub part-put : (o : List ℕ) (at k : ℕ) (xs vs : List ℕ) → xs ≡ vs → length vs ≡ k → put_mid at k o xs ≡ put o at vs
+unfolding put
+part-put o at k xs vs e l = put_mid-paste at k o xs vs k e refl (sym l) ∙ paste_all o at vs k (sym l) ∙ rw l refl
 
 -- one piece after the other
 pub put-put : (o : List ℕ) (at : ℕ) (xs ys : List ℕ) → at + length xs ≤ length o

@@ -1,36 +1,26 @@
-// What the writer does with a line: its length, and its bytes. Each function that writes answers the place after what it has written.
+// What the writer does with a line: its length, and its bytes. Each function that writes answers the place after what it has
+// written: the bytes are the caller's, as there is no heap, and a line may stand anywhere in them.
 ghost use Rattle.std.specs.Prelude.{◌≡◌, ◌+◌, ◌<◌, ◌≤◌, length};
 ghost use Rattle.rules.specs.Text.{key, digits, line};
 ghost use Rattle.lines.specs.Put.{Over};
 
 use crate::keys;
 
-// How many digits n has, by comparison with the powers of ten.
+// How many digits n has.
 fn digit_count(n: u32) -> usize
     ensures { (result ≡ length (digits n)) × (result ≤ 10) }
 {
-    if n < 100000 {
-        if n < 10 {
-            1
-        } else if n < 100 {
-            2
-        } else if n < 1000 {
-            3
-        } else if n < 10000 {
-            4
-        } else {
-            5
-        }
-    } else if n < 1000000 {
-        6
-    } else if n < 10000000 {
-        7
-    } else if n < 100000000 {
-        8
-    } else if n < 1000000000 {
-        9
-    } else {
-        10
+    match n {
+        0..=9 => 1,
+        10..=99 => 2,
+        100..=999 => 3,
+        1_000..=9_999 => 4,
+        10_000..=99_999 => 5,
+        100_000..=999_999 => 6,
+        1_000_000..=9_999_999 => 7,
+        10_000_000..=99_999_999 => 8,
+        100_000_000..=999_999_999 => 9,
+        _ => 10,
     }
 }
 
@@ -39,7 +29,7 @@ pub fn line_length(k: usize, value: u32) -> usize
     requires { k < 12 }
     ensures { (result ≡ length (line (key k) value)) × (result ≤ 20) }
 {
-    keys::key_length(k) + digit_count(value) + 1
+    keys::key(k).len() + digit_count(value) + 1
 }
 
 // Bytes, written from `at` on.
@@ -47,15 +37,12 @@ pub fn put_bytes(out: &mut [u8], at: usize, bytes: &[u8]) -> usize
     requires { at + length bytes.now ≤ length out.old }
     ensures { Over out.old at bytes.now out.new result }
 {
-    let mut i = 0;
-    while i < bytes.len() {
-        out[at + i] = bytes[i];
-        i += 1;
-    }
-    at + i
+    let end = at + bytes.len();
+    out[at..end].copy_from_slice(bytes);
+    end
 }
 
-// The digits of n, written from `at` on, the last ones first, two at a time.
+// The digits of n, written from `at` on, the last ones first, two at a time. A `while`, as it divides until little is left.
 pub fn put_number(out: &mut [u8], at: usize, n: u32) -> usize
     requires { at + length (digits n) ≤ length out.old }
     ensures { Over out.old at (digits n) out.new result }
@@ -84,7 +71,7 @@ pub fn put_line(out: &mut [u8], at: usize, k: usize, value: u32) -> usize
     requires { (k < 12) × (at + length (line (key k) value) ≤ length out.old) }
     ensures { Over out.old at (line (key k) value) out.new result }
 {
-    let equals = keys::put_key(out, at, k);
+    let equals = put_bytes(out, at, keys::key(k));
     let end = put_number(out, equals, value);
     out[end] = 10;
     end + 1

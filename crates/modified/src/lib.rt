@@ -1,184 +1,165 @@
 #![tactic(auto)]
 // Modified times, by rounds over the arcs: each round reads the times of the round before. Releases go forward along the
 // arcs and deadlines back. A deadline is worked on as its tail, how long before 1,000,000 it lies: then both ways take the
-// largest, a deadline less a cost is a tail and that cost, and nothing falls below zero.
-ghost use Rattle.std.specs.Prelude.{◌≡◌, ◌++◌, ◌+◌, ◌*◌, ◌/◌, ◌<◌, ◌≤◌, eqb, length, get_or, drop};
-ghost use Rattle.rules.specs.Rows.{all};
-ghost use Rattle.rules.specs.Table.{latest};
-ghost use Rattle.rows.specs.Judged.{fault_in};
-ghost use Rattle.modified.specs.Rounds.{JobsIn, ArcIn, ArcsIn, Low, Holds, Fit, source_of, target_of, start_of, gain_of, raised, brought, brought_to, round_to, window_found, pairs_to};
+// largest, a deadline less a cost is a tail and that cost, and nothing falls below zero. The arrays have room for the most jobs, as there is
+// no heap; the jobs of the table are their front.
+// What is asked of a table and of arrays stands in each `requires`, as little as the function needs: ARCHITECTURE.md names these functions, and a
+// type that brought the facts along would ask more of their callers.
+ghost use Rattle.std.specs.Prelude.{◌≡◌, ◌++◌, ◌*◌, ◌<◌, ◌≤◌, length, drop};
+ghost use Rattle.rules.specs.Table.{job_count, arc_count, deadline, latest};
+ghost use Rattle.laws.specs.Answers.{fault_in};
+ghost use Rattle.laws.specs.Refusals.{ArcIn};
+ghost use Rattle.modified.specs.Rounds.{JobsIn, ArcsIn, Low, Holds, Fit, source_of, target_of, start_of, gain_of, raised, brought, brought_to, round_to, short, window_found, pairs_to};
 
 use row_rules::LATEST;
-use rows::Judged;
 use rules::Refusal;
+use rules::table::Table;
 
-// Releases go forward along the arcs, deadlines back.
+// Releases go forward along the arcs, deadlines back. The way chooses a number, not a step: an enum, as a closure for each of its four
+// numbers would say no more.
 #[derive(Clone, Copy)]
 pub enum Way {
     Forward,
     Back,
 }
 
-// The jobs at the ends of an arc, as a way goes.
-#[derive(Clone, Copy)]
-struct Ends {
-    source: usize,
-    target: usize,
-}
-
-fn wide(x: u32) -> usize
-    ensures { result ≡ x }
+// The job that an arc leads from, as a way goes.
+fn source(table: &Table, way: Way, a: usize) -> usize
+    requires { a < arc_count table.now }
+    ensures { result ≡ source_of table.now way a }
 {
-    x as usize
-}
-
-// The ends of arc a.
-fn ends_of(arcs: &[u32], way: Way, a: usize) -> Ends
-    requires { 2 * a + 1 < length arcs.now }
-    ensures { (result.source ≡ source_of arcs.now way a) × (result.target ≡ target_of arcs.now way a) }
-{
-    let before = wide(arcs[2 * a]);
-    let after = wide(arcs[2 * a + 1]);
     match way {
-        Way::Forward => Ends {
-            source: before,
-            target: after,
-        },
-        Way::Back => Ends {
-            source: after,
-            target: before,
-        },
+        Way::Forward => table.before(a),
+        Way::Back => table.after(a),
+    }
+}
+
+// The job that it leads to.
+fn target(table: &Table, way: Way, a: usize) -> usize
+    requires { a < arc_count table.now }
+    ensures { result ≡ target_of table.now way a }
+{
+    match way {
+        Way::Forward => table.after(a),
+        Way::Back => table.before(a),
     }
 }
 
 // What a job has by itself: its own release, or the tail of its own deadline.
-fn start(jobs: &[u32], way: Way, j: usize) -> u32
-    requires { (3 * j + 2 < length jobs.now) × (get_or jobs.now (3 * j + 2) 0 ≤ latest) }
-    ensures { result ≡ start_of jobs.now way j }
+fn start(table: &Table, way: Way, j: usize) -> u32
+    requires in_table { j < job_count table.now }
+    requires deadline_in { deadline table.now j ≤ latest }
+    ensures { result ≡ start_of table.now way j }
 {
     match way {
-        Way::Forward => jobs[3 * j],
-        Way::Back => LATEST - jobs[3 * j + 2],
+        Way::Forward => table.release(j),
+        Way::Back => LATEST - table.deadline(j),
     }
 }
 
 // What an arc from job i adds to what i has: nothing to a release; to a tail the cost of i, which is the successor there.
-fn gain(jobs: &[u32], way: Way, i: usize) -> u32
-    requires { 3 * i + 2 < length jobs.now }
-    ensures { result ≡ gain_of jobs.now way i }
+fn gain(table: &Table, way: Way, i: usize) -> u32
+    requires { i < job_count table.now }
+    ensures { result ≡ gain_of table.now way i }
 {
     match way {
         Way::Forward => 0,
-        Way::Back => jobs[3 * i + 1],
+        Way::Back => table.cost(i),
     }
 }
 
 // What each job has by itself.
-fn starts(jobs: &[u32], way: Way) -> [u32; 64]
-    requires { JobsIn jobs.now }
-    ensures { Holds jobs.now (start_of jobs.now way) result }
+fn starts(table: &Table, way: Way) -> [u32; 64]
+    requires { JobsIn table.now }
+    ensures { Holds table.now (start_of table.now way) result }
 {
-    let n = jobs.len() / 3;
-    let mut v = [0u32; 64];
-    let mut j = 0;
-    while j < n {
-        v[j] = start(jobs, way, j);
-        j += 1;
+    let mut times = [0u32; 64];
+    for j in 0..table.job_count() {
+        times[j] = start(table, way, j);
     }
-    v
+    times
 }
 
 // The target of an arc gets at least what its source had in the round before, with the gain.
-fn carry(jobs: &[u32], arcs: &[u32], way: Way, a: usize, old: &[u32; 64], new: &mut [u32; 64])
-    requires { JobsIn jobs.now × ArcIn jobs.now arcs.now a × Low jobs.now old.now × (length new.old ≡ 64) }
-    ensures { new.new ≡ raised new.old (target_of arcs.now way a)
-        (brought jobs.now arcs.now way old.now a) }
+#[tactic(auto, unfolding(crate::specs::Rounds::raised))]
+fn carry(table: &Table, way: Way, a: usize, old: &[u32; 64], new: &mut [u32; 64])
+    requires jobs_in { JobsIn table.now }
+    requires in_table { a < arc_count table.now }
+    requires arc_in { ArcIn table.now a }
+    requires low { Low table.now old.now }
+    requires size { length new.old ≡ 64 }
+    ensures { new.new ≡ raised new.old (target_of table.now way a) (brought table.now way old.now a) }
 {
-    let e = ends_of(arcs, way, a);
-    let i = e.source;
-    let j = e.target;
-    let x = old[i] + gain(jobs, way, i);
-    if new[j] < x {
-        new[j] = x;
-    }
+    let i = source(table, way, a);
+    let j = target(table, way, a);
+    new[j] = new[j].max(old[i] + gain(table, way, i));
 }
 
 // One round over the arcs.
-fn round(jobs: &[u32], arcs: &[u32], way: Way, old: &[u32; 64]) -> [u32; 64]
-    requires { JobsIn jobs.now × ArcsIn jobs.now arcs.now × Low jobs.now old.now }
-    ensures { Holds jobs.now
-        (brought_to jobs.now arcs.now way old.now (length arcs.now / 2)) result }
+fn round(table: &Table, way: Way, old: &[u32; 64]) -> [u32; 64]
+    requires jobs_in { JobsIn table.now }
+    requires arcs_in { ArcsIn table.now }
+    requires low { Low table.now old.now }
+    ensures { Holds table.now (brought_to table.now way old.now (arc_count table.now)) result }
 {
-    let m = arcs.len() / 2;
-    let mut new = starts(jobs, way);
-    let mut a = 0;
-    while a < m {
-        carry(jobs, arcs, way, a, old, &mut new);
-        a += 1;
+    let mut new = starts(table, way);
+    for a in 0..table.arc_count() {
+        carry(table, way, a, old, &mut new);
     }
     new
 }
 
-// Whether two rounds gave the first n jobs the same.
-fn alike(old: &[u32; 64], new: &[u32; 64], n: usize) -> bool
-    requires { (n ≤ 64) × (length old.now ≡ 64) × (length new.now ≡ 64) }
-    ensures { result ≡ all (λ j. eqb (get_or old.now j 0) (get_or new.now j 0)) n }
-{
-    let mut j = 0;
-    while j < n {
-        if old[j] != new[j] {
-            return false;
-        }
-        j += 1;
-    }
-    true
-}
-
 // As many rounds as there are jobs, or until one changes nothing: then no later one would.
-pub fn rounds(jobs: &[u32], arcs: &[u32], way: Way) -> [u32; 64]
-    requires { JobsIn jobs.now × ArcsIn jobs.now arcs.now }
-    ensures { Holds jobs.now (round_to jobs.now arcs.now way (length jobs.now / 3)) result }
+pub fn rounds(table: &Table, way: Way) -> [u32; 64]
+    requires jobs_in { JobsIn table.now }
+    requires arcs_in { ArcsIn table.now }
+    ensures { Holds table.now (round_to table.now way (job_count table.now)) result }
 {
-    let n = jobs.len() / 3;
-    let mut v = starts(jobs, way);
-    let mut k = 0;
-    while k < n {
-        let w = round(jobs, arcs, way, &v);
-        if alike(&v, &w, n) {
-            return v;
+    let n = table.job_count();
+    let mut old = starts(table, way);
+    for _k in 0..n {
+        let new = round(table, way, &old);
+        if new[..n] == old[..n] {
+            return old;
         }
-        v = w;
-        k += 1;
+        old = new;
     }
-    v
+    old
 }
 
-// 10: the lowest job whose release, cost and tail together are more than 1,000,000, so that its window is below its cost.
-pub fn judge_windows(jobs: &[u32], releases: &[u32; 64], tails: &[u32; 64]) -> Judged
-    requires { JobsIn jobs.now × Low jobs.now releases.now × Low jobs.now tails.now }
-    ensures { fault_in result ≡ window_found jobs.now releases.now tails.now }
+// Whether a job's release, cost and tail together are more than 1,000,000, so that its window is below its cost.
+fn short(table: &Table, releases: &[u32; 64], tails: &[u32; 64], j: usize) -> bool
+    requires jobs_in { JobsIn table.now }
+    requires releases_low { Low table.now releases.now }
+    requires tails_low { Low table.now tails.now }
+    requires in_table { j < job_count table.now }
+    ensures { result ≡ short table.now releases.now tails.now j }
 {
-    let n = jobs.len() / 3;
-    let mut j = 0;
-    while j < n {
-        let short = releases[j] + jobs[3 * j + 1] + tails[j] > LATEST;
-        if short {
-            return Judged::Wrong(Refusal::Window(j as u32));
-        }
-        j += 1;
-    }
-    Judged::Right
+    releases[j] + table.cost(j) + tails[j] > LATEST
 }
 
-// The times of the n jobs to the front of the lent list: a release, and the deadline of a tail.
-pub fn write(times: &mut [u32], n: usize, releases: &[u32; 64], tails: &[u32; 64])
-    requires { (n ≤ 64) × (2 * n ≤ length times.old) × Fit n releases.now tails.now }
-    ensures { times.new ≡ pairs_to releases.now tails.now n ++ drop (2 * n) times.old }
+// 10: the lowest job whose window is below its cost.
+pub fn judge_windows(table: &Table, releases: &[u32; 64], tails: &[u32; 64]) -> Result<(), Refusal>
+    requires jobs_in { JobsIn table.now }
+    requires releases_low { Low table.now releases.now }
+    requires tails_low { Low table.now tails.now }
+    ensures { fault_in result ≡ window_found table.now releases.now tails.now }
 {
-    let mut j = 0;
-    while j < n {
+    match (0..table.job_count()).find(|j| short(table, releases, tails, *j)) {
+        Some(j) => Err(Refusal::Window(j as u32)),
+        None => Ok(()),
+    }
+}
+
+// The times of the jobs to the front of the lent list: a release, and the deadline of a tail.
+pub fn write(table: &Table, times: &mut [u32], releases: &[u32; 64], tails: &[u32; 64])
+    requires few { job_count table.now ≤ 64 }
+    requires room { 2 * job_count table.now ≤ length times.old }
+    requires fit { Fit table.now releases.now tails.now }
+    ensures { times.new ≡ pairs_to releases.now tails.now (job_count table.now) ++ drop (2 * job_count table.now) times.old }
+{
+    for j in 0..table.job_count() {
         times[2 * j] = releases[j];
         times[2 * j + 1] = LATEST - tails[j];
-        j += 1;
     }
 }

@@ -1,135 +1,170 @@
 #![tactic(auto)]
-// The lines of an answer, written to a page. Each function answers the place after what it has written.
-ghost use Rattle.std.specs.Prelude.{[], ◌∷◌, ◌++◌, ◌+◌, ◌*◌, ◌/◌, ◌<◌, ◌≤◌, length};
+// The page that an answer is written to, and its lines. What is put goes behind what is written so far.
+ghost use Rattle.std.specs.Prelude.{◌≡◌, [], ◌∷◌, ◌++◌, ◌+◌, ◌<◌, ◌≤◌, length};
 ghost use Rattle.std.proofs.Math.IntN.{sub_ℕ};
 ghost use Rattle.rules.specs.Text.{bytes_of, digits, line, lf};
+ghost use Rattle.rules.specs.Table.{job_count};
 ghost use Rattle.rules.specs.Refusals.{fault_of};
 ghost use Rattle.rules.specs.Output.{signed, mark_word, job_lines, jobs_lines, report, refusal_lines};
-ghost use Rattle.lines.specs.Put.{Over};
-ghost use Rattle.rules.specs.Lists.{timed, state};
+ghost use Rattle.page.specs.Page.{Adds, Reported};
 
-use lines::writer::{put_bytes, put_number};
+use lines::writer;
 use rules::Refusal;
+use rules::plan::Plan;
+use rules::state::{STALE, State};
+use std::marker::Model;
 
-// The digits of n, at most ten, written from `at` on.
-fn number(page: &mut [u8], at: usize, n: u32) -> usize
-    requires { at + 10 ≤ length page.old }
-    ensures { Over page.old at (digits n) page.new result × (result ≤ at + 10) }
-{
-    put_number(page, at, n)
+// The bytes that are written so far. There is room for 64 jobs, and ten digits for each number.
+#[derive(Drop)]
+pub struct Page {
+    bytes: [u8; 5729],
+    len: usize,
 }
 
-// The line of a key and a value.
-fn put_line(page: &mut [u8], at: usize, key: &[u8], value: u32) -> usize
-    requires { at + length key.now + 11 ≤ length page.old }
-    ensures { Over page.old at (line key.now value) page.new result × (result ≤ at + length key.now + 11) }
-{
-    let at = put_bytes(page, at, key);
-    let at = number(page, at, value);
-    put_bytes(page, at, b"\n")
+impl Model for Page {
+    ghost use Rattle.std.specs.Prelude.{ℕ, List, take, ◌≤◌};
+
+    ghost Value = { List ℕ };
+
+    ghost view = { λ p. take p.len p.bytes };
+
+    ghost invariant = { λ p. p.len ≤ 5729 };
 }
 
-// How late a job ended, with a minus sign when early.
-fn late(page: &mut [u8], at: usize, finish: u32, deadline: u32) -> usize
-    requires { at + 11 ≤ length page.old }
-    ensures { Over page.old at (signed (sub_ℕ finish deadline)) page.new result × (result ≤ at + 11) }
-{
-    if deadline <= finish {
-        return number(page, at, finish - deadline);
+impl Page {
+    // An empty page.
+    fn new() -> Page
+        ensures { result ≡ [] }
+    {
+        Page {
+            bytes: [0; 5729],
+            len: 0,
+        }
     }
-    let at = put_bytes(page, at, b"-");
-    number(page, at, deadline - finish)
-}
 
-// The line of a job's lateness.
-fn late_line(page: &mut [u8], at: usize, finish: u32, deadline: u32) -> usize
-    requires { at + 21 ≤ length page.old }
-    ensures { Over page.old at (bytes_of "lateness=" ++ (signed (sub_ℕ finish deadline) ++ (lf ∷ []))) page.new result × (result ≤ at + 21) }
-{
-    let at = put_bytes(page, at, b"lateness=");
-    let at = late(page, at, finish, deadline);
-    put_bytes(page, at, b"\n")
-}
-
-// The line of a job's mark, in words.
-fn mark_line(page: &mut [u8], at: usize, mark: u32) -> usize
-    requires { at + 11 ≤ length page.old }
-    ensures { Over page.old at (bytes_of "mark=" ++ (mark_word mark ++ (lf ∷ []))) page.new result × (result ≤ at + 11) }
-{
-    if mark == 2 {
-        return put_bytes(page, at, b"mark=stale\n");
+    // What is written.
+    pub fn as_slice(&self) -> &[u8]
+        ensures value { result.now ≡ self.now }
+        ensures fits { length result.now ≤ 5729 }
+    {
+        &self.bytes[..self.len]
     }
-    put_bytes(page, at, b"mark=fresh\n")
-}
 
-// The five lines of a job.
-fn job_lines(
-    page: &mut [u8],
-    at: usize,
-    jobs: &[u32],
-    times: &[u32],
-    marks: &[u32],
-    finish: &[u32],
-    j: usize,
-) -> usize
-    requires at_in_bounds { at + 89 ≤ length page.old }
-    requires j_in_bounds { (3 * j + 2 < length jobs.now) × (2 * j + 1 < length times.now) × (j < length marks.now) × (j < length finish.now) }
-    ensures { Over page.old at (job_lines (timed jobs.now times.now) (state 0 [] marks.now finish.now) j) page.new result × (result ≤ at + 89) }
-{
-    let mark = marks[j];
-    let at = put_line(page, at, b"release=", times[2 * j]);
-    let at = put_line(page, at, b"deadline=", times[2 * j + 1]);
-    let at = put_line(page, at, b"finish=", finish[j]);
-    let at = late_line(page, at, finish[j], jobs[3 * j + 2]);
-    mark_line(page, at, mark)
-}
-
-// The lines of all jobs, by number.
-fn jobs_lines(
-    page: &mut [u8],
-    from: usize,
-    jobs: &[u32],
-    times: &[u32],
-    marks: &[u32],
-    finish: &[u32],
-) -> usize
-    requires jobs_len_bound { (length jobs.now / 3 ≤ 64) × (from + 5696 ≤ length page.old) }
-    requires jobs_in_bounds { (2 * (length jobs.now / 3) ≤ length times.now) × (length jobs.now / 3 ≤ length marks.now) × (length jobs.now / 3 ≤ length finish.now) }
-    ensures { Over page.old from (jobs_lines (timed jobs.now times.now) (state 0 [] marks.now finish.now) (length jobs.now / 3)) page.new result × (result ≤ from + 5696) }
-{
-    let n = jobs.len() / 3;
-    let mut at = from;
-    let mut j = 0;
-    while j < n {
-        at = job_lines(page, at, jobs, times, marks, finish, j);
-        j += 1;
+    // Bytes.
+    fn put(&mut self, bytes: &[u8])
+        requires { length self.old + length bytes.now ≤ 5729 }
+        ensures { Adds self.old bytes.now self.new }
+    {
+        let at = self.len;
+        self.len = writer::put_bytes(&mut self.bytes, at, bytes);
     }
-    at
-}
 
-// What is printed of a run that has ended: the number of jobs, the lines of each, and the tick of the end state.
-pub fn put_report(
-    page: &mut [u8],
-    jobs: &[u32],
-    times: &[u32],
-    tick: u32,
-    marks: &[u32],
-    finish: &[u32],
-) -> usize
-    requires jobs_len_bound { (length jobs.now / 3 ≤ 64) × (5729 ≤ length page.old) }
-    requires jobs_in_bounds { (2 * (length jobs.now / 3) ≤ length times.now) × (length jobs.now / 3 ≤ length marks.now) × (length jobs.now / 3 ≤ length finish.now) }
-    ensures { Over page.old 0 (report (timed jobs.now times.now) (state tick [] marks.now finish.now)) page.new result × (result ≤ length page.old) }
-{
-    let at = put_line(page, 0, b"jobs=", (jobs.len() / 3) as u32);
-    let at = jobs_lines(page, at, jobs, times, marks, finish);
-    put_line(page, at, b"ticks=", tick)
-}
+    // The digits of n, at most ten.
+    fn put_number(&mut self, n: u32)
+        requires { length self.old + 10 ≤ 5729 }
+        ensures written { Adds self.old (digits n) self.new }
+        ensures short { length self.new ≤ length self.old + 10 }
+    {
+        let at = self.len;
+        self.len = writer::put_number(&mut self.bytes, at, n);
+    }
 
-// A refusal's two lines.
-pub fn put_refusal(page: &mut [u8], refusal: Refusal) -> usize
-    requires { 5729 ≤ length page.old }
-    ensures { Over page.old 0 (refusal_lines (fault_of refusal)) page.new result × (result ≤ length page.old) }
-{
-    let at = put_line(page, 0, b"refusal=", refusal.number());
-    put_line(page, at, b"place=", refusal.place())
+    // The line of a key and a value: a crate below, `lines` writes one too, but anywhere into a caller's bytes.
+    fn put_line(&mut self, key: &[u8], value: u32)
+        requires { length self.old + length key.now + 11 ≤ 5729 }
+        ensures written { Adds self.old (line key.now value) self.new }
+        ensures short { length self.new ≤ length self.old + length key.now + 11 }
+    {
+        self.put(key);
+        self.put_number(value);
+        self.put(b"\n");
+    }
+
+    // How late a job ended, with a minus sign when early.
+    fn put_late(&mut self, finish: u32, deadline: u32)
+        requires { length self.old + 11 ≤ 5729 }
+        ensures written { Adds self.old (signed (sub_ℕ finish deadline)) self.new }
+        ensures short { length self.new ≤ length self.old + 11 }
+    {
+        if deadline <= finish {
+            self.put_number(finish - deadline);
+        } else {
+            self.put(b"-");
+            self.put_number(deadline - finish);
+        }
+    }
+
+    // The line of a job's mark, in words.
+    fn put_mark(&mut self, mark: u32)
+        requires { length self.old + 11 ≤ 5729 }
+        ensures written { Adds self.old (bytes_of "mark=" ++ (mark_word mark ++ (lf ∷ []))) self.new }
+        ensures short { length self.new ≤ length self.old + 11 }
+    {
+        let stale = mark == STALE;
+        if stale {
+            self.put(b"mark=stale\n");
+        } else {
+            self.put(b"mark=fresh\n");
+        }
+    }
+
+    // The five lines of a job.
+    fn put_job(&mut self, plan: &Plan, state: &State, j: usize)
+        requires room { length self.old + 89 ≤ 5729 }
+        requires reported { Reported plan.now state.now }
+        requires j_in_bounds { j < job_count plan.now.table }
+        ensures written { Adds self.old (job_lines plan.now state.now j) self.new }
+        ensures short { length self.new ≤ length self.old + 89 }
+    {
+        let finish = state.finish()[j];
+        let mark = state.marks()[j];
+        let modified = plan.deadline(j).0;
+        let given = plan.table().deadline(j);
+        self.put_line(b"release=", plan.release(j).0);
+        self.put_line(b"deadline=", modified);
+        self.put_line(b"finish=", finish);
+        self.put(b"lateness=");
+        self.put_late(finish, given);
+        self.put(b"\n");
+        self.put_mark(mark);
+    }
+
+    // The lines of all jobs, by number.
+    fn put_jobs(&mut self, plan: &Plan, state: &State)
+        requires room { length self.old + 5696 ≤ 5729 }
+        requires reported { Reported plan.now state.now }
+        ensures written { Adds self.old (jobs_lines plan.now state.now (job_count plan.now.table)) self.new }
+        ensures short { length self.new ≤ length self.old + 5696 }
+    {
+        let n = plan.table().job_count();
+        for j in 0..n {
+            self.put_job(plan, state, j);
+        }
+    }
+
+    // What is printed of a run that has ended: the number of jobs, the lines of each, and the tick of the end state.
+    pub fn report(plan: &Plan, state: &State) -> Page
+        requires { Reported plan.now state.now }
+        ensures { result ≡ report plan.now state.now }
+    {
+        let count = plan.table().job_count() as u32;
+        let tick = state.tick();
+        let mut page = Page::new();
+        page.put_line(b"jobs=", count);
+        page.put_jobs(plan, state);
+        page.put_line(b"ticks=", tick);
+        page
+    }
+
+    // A refusal's two lines.
+    pub fn refusal(refusal: Refusal) -> Page
+        ensures { result ≡ refusal_lines (fault_of refusal) }
+    {
+        let number = refusal.number();
+        let place = refusal.place();
+        let mut page = Page::new();
+        page.put_line(b"refusal=", number);
+        page.put_line(b"place=", place);
+        page
+    }
 }

@@ -51,9 +51,6 @@ pub record Lining (o₀ : List ℕ) (from : ℕ) (b : Part) (vs o : List ℕ) (i
   pub place : at + length (lines_from b vs i) ≡ from + length (value_lines b 0 vs)
   pub left : put o at (lines_from b vs i) ≡ put o₀ from (value_lines b 0 vs)
 
-pub lining : (o : List ℕ) (from : ℕ) (b : Part) (vs : List ℕ) → from + length (value_lines b 0 vs) ≤ length o → Lining o from b vs o 0 from
-lining o from b vs h = record { within = omega arith; same = refl; room = h; place = refl; left = refl }
-
 module _ {o₀ : List ℕ} {from : ℕ} {b : Part} {vs o : List ℕ} {i at : ℕ} (g : Lining o₀ from b vs o i at) where
   -- there is room for the next line
   pub fits : {k : ℕ} → i < length vs → k ≡ b.head + 1 + i % b.width → at + length (line (key k) (get_or vs i 0)) ≤ length o

@@ -44,7 +44,7 @@ impl Part {
         ensures { result ≡ (part_of self).right count }
     {
         match self {
-            Part::Jobs => 1 <= count && count <= 64,
+            Part::Jobs => (1..=64).contains(&count),
             Part::Arcs => count <= 256,
             Part::Sections => count <= 128,
         }

@@ -1,12 +1,14 @@
-// The two passes of the writer: how long a text is, and the text.
+// The two passes of the writer: how long a text is, and the text. That a part has a right count is asked by each function of it: the lists
+// are slices of the caller's table, and no type of their own.
 ghost use Rattle.std.specs.Prelude.{◌≡◌, ◌+◌, ◌/◌, ◌≤◌, length};
-ghost use Rattle.rules.specs.Text.{value_lines, part_text};
-ghost use Rattle.laws.specs.Text.{Counted};
-ghost use Rattle.parts.specs.Parts.{part_of, TableCounted, text_from};
+ghost use Rattle.rules.specs.Text.{value_lines, part_text, text_of};
+ghost use Rattle.laws.specs.Text.{Counted, AllCounted};
+ghost use Rattle.parts.specs.Parts.{part_of};
 ghost use Rattle.lines.specs.Put.{Over};
 
 use crate::Part;
 use lines::writer;
+use rules::table::Table;
 
 // ---- lengths
 
@@ -16,10 +18,8 @@ fn values_length(part: Part, values: &[u32]) -> usize
     ensures { (result ≡ length (value_lines (part_of part) 0 values.now)) × (result ≤ 10240) }
 {
     let mut sum = 0;
-    let mut i = 0;
-    while i < values.len() {
-        sum += writer::line_length(part.key_at(i), values[i]);
-        i += 1;
+    for (i, value) in values.iter().enumerate() {
+        sum += writer::line_length(part.key_at(i), *value);
     }
     sum
 }
@@ -41,16 +41,16 @@ fn part_length(part: Part, values: &[u32]) -> usize
 }
 
 // How many bytes the text of a table has.
-pub fn text_length(jobs: &[u32], arcs: &[u32], sections: &[u32]) -> usize
-    requires { TableCounted jobs.now arcs.now sections.now }
-    ensures { result ≡ length (text_from jobs.now arcs.now sections.now) }
+pub fn text_length(table: &Table) -> usize
+    requires { AllCounted table.now }
+    ensures { result ≡ length (text_of table.now) }
 {
-    part_length(Part::Jobs, jobs)
-        + part_length(Part::Arcs, arcs)
-        + part_length(Part::Sections, sections)
+    part_length(Part::Jobs, table.jobs())
+        + part_length(Part::Arcs, table.arcs())
+        + part_length(Part::Sections, table.sections())
 }
 
-// ---- bytes; each function answers the place after what it has written
+// ---- bytes, which are the caller's; each function answers the place after what it has written
 
 // The lines of a part's values, written from `from` on.
 fn put_values(out: &mut [u8], from: usize, part: Part, values: &[u32]) -> usize
@@ -58,10 +58,8 @@ fn put_values(out: &mut [u8], from: usize, part: Part, values: &[u32]) -> usize
     ensures { Over out.old from (value_lines (part_of part) 0 values.now) out.new result }
 {
     let mut at = from;
-    let mut i = 0;
-    while i < values.len() {
-        at = writer::put_line(out, at, part.key_at(i), values[i]);
-        i += 1;
+    for (i, value) in values.iter().enumerate() {
+        at = writer::put_line(out, at, part.key_at(i), *value);
     }
     at
 }
@@ -77,12 +75,12 @@ fn put_part(out: &mut [u8], at: usize, part: Part, values: &[u32]) -> usize
 }
 
 // The text of a table, written to the front of `out`.
-pub fn put_text(out: &mut [u8], jobs: &[u32], arcs: &[u32], sections: &[u32]) -> usize
-    requires table_counted { TableCounted jobs.now arcs.now sections.now }
-    requires sections_in_bounds { length (text_from jobs.now arcs.now sections.now) ≤ length out.old }
-    ensures { Over out.old 0 (text_from jobs.now arcs.now sections.now) out.new result }
+pub fn put_text(out: &mut [u8], table: &Table) -> usize
+    requires counted { AllCounted table.now }
+    requires in_bounds { length (text_of table.now) ≤ length out.old }
+    ensures { Over out.old 0 (text_of table.now) out.new result }
 {
-    let arcs_at = put_part(out, 0, Part::Jobs, jobs);
-    let sections_at = put_part(out, arcs_at, Part::Arcs, arcs);
-    put_part(out, sections_at, Part::Sections, sections)
+    let arcs_at = put_part(out, 0, Part::Jobs, table.jobs());
+    let sections_at = put_part(out, arcs_at, Part::Arcs, table.arcs());
+    put_part(out, sections_at, Part::Sections, table.sections())
 }

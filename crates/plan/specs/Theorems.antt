@@ -1,13 +1,12 @@
 -- What the promises say: they settle every result, and of the times that `plan` leaves they say what 01 and 003 say.
-use Rattle.std.specs.Prelude.{◌≡◌, refl, Bool, true, false, List, ◌++◌, ℕ, ◌+◌, ◌*◌, ◌-◌, ◌≤◌, ◌<◌, length, get_or, drop, leb}
+use Rattle.std.specs.Prelude.{◌≡◌, refl, Bool, true, false, List, ◌++◌, ℕ, ◌+◌, ◌*◌, ◌-◌, ◌≤◌, ◌<◌, length, get_or, drop, leb, Option, None, Some, Result, Ok}
 use Rattle.std.proofs.Math.Path.{sym, ap}
 use Rattle.std.proofs.Common.{◌∙◌, arith, take_at, leb-true}
-use Rattle.std.proofs.Math.Option.{Option, none, some}
 use Rattle.std.proofs.Math.ListN.{take, get_or-append}
 use Rattle.rules.specs.Table.{Table, Plan, latest, job_count, release, cost, deadline, modified_release, modified_deadline}
 use Rattle.rules.specs.Times.{lift, new_release, lifted_deadline, times_to}
-use Rattle.rules.specs.Refusals.{Fault, fault_of, gives, and_then, unless, demand, room, check_fault, plan_of, check, plan_in_bounds}
-use Rattle.laws.specs.Answers.{fault_settles}
+use Rattle.rules.specs.Refusals.{Fault, gives, and_then, unless, demand, room, check_fault, plan_of, check, plan_in_bounds}
+use Rattle.laws.specs.Answers.{said_settles}
 use Rattle.laws.specs.Rows.{largest_ext, smallest_ext}
 use Rattle.laws.specs.Reach.{Ancestor, ancestor_inside}
 use Rattle.laws.specs.Times.{
@@ -21,20 +20,13 @@ use Rattle.laws.specs.Times.{
 }
 use Rattle.laws.specs.Refusals.{Accepted, accepted_facts}
 use Rattle.laws.specs.Accepted.{arcs_inside, plan-release, plan-deadline, window, due, consistent, plan_in_bounds_lem}
-use Rattle.plan.specs.declared.Planned.{Planned}
-use Rattle.plan.specs.declared.Planned.TheVariants.{Refused, Times}
-use Rattle.plan.specs.Promise.{planned, said, counted, written, Plans}
+use Rattle.rules.specs.declared.Refusal.{Refusal}
+use Rattle.plan.specs.Promise.{planned, counted, written, Plans}
 
 -- ---- every result is settled
 
-said_settles : (a b : Planned) → said a ≡ said b → a ≡ b
-said_settles (Refused r) (Refused s) e = let f : fault_of r ≡ fault_of s = cc in ap Refused (fault_settles r s f)
-said_settles (Refused r) (Times n) e = let z : ◌≡◌ {A = ℕ} 0 1 = cc in absurd (omega arith)
-said_settles (Times n) (Refused s) e = let z : ◌≡◌ {A = ℕ} 0 1 = cc in absurd (omega arith)
-said_settles (Times n) (Times m) e = let f : n ≡ m = cc in ap Times f
-
 -- Any two results that the promise of `plan` allows are equal: the answer, and the lent list with its rest.
-pub plan_settled : {t : Table} {lent : List ℕ} {a b : Planned} {l m : List ℕ} → Plans t lent a l → Plans t lent b m → (a ≡ b) × (l ≡ m)
+pub plan_settled : {t : Table} {lent : List ℕ} {a b : Result ℕ Refusal} {l m : List ℕ} → Plans t lent a l → Plans t lent b m → (a ≡ b) × (l ≡ m)
 plan_settled {a = a} {b = b} p q = (said_settles a b (p.answer-is ∙ sym q.answer-is), p.left_is ∙ sym q.left_is)
 
 -- So it is for `plan_in_bounds`.
@@ -45,19 +37,19 @@ plan_in_bounds_settled p e f = e ∙ sym f
 
 -- where `plan` gives times, the table is accepted, and the front of the list holds the times of its plan
 pub record Given (t : Table) (lent : List ℕ) (n : ℕ) (left : List ℕ) : Type 0 where
-  pub accepted : check_fault t ≡ none
+  pub accepted : check_fault t ≡ None
   pub count : n ≡ 2 * job_count t
   pub fits : n ≤ length lent
   pub front : left ≡ (plan_of t).times ++ drop n lent
 
-pub given : (t : Table) (lent : List ℕ) (n : ℕ) (left : List ℕ) → Plans t lent (Times n) left → Given t lent n left
+pub given : (t : Table) (lent : List ℕ) (n : ℕ) (left : List ℕ) → Plans t lent (Ok n) left → Given t lent n left
 unfolding planned check plan_of
 given t lent n left P = go (check_fault t) refl P.answer-is P.left_is
   where
     times : List ℕ
     times = times_to t (job_count t)
 
-    roomy : (b : Bool) → leb (length times) (length lent) ≡ b → check_fault t ≡ none
+    roomy : (b : Bool) → leb (length times) (length lent) ≡ b → check_fault t ≡ None
         → gives n ≡ counted (unless (demand b 11) times) → left ≡ written (unless (demand b 11) times) lent → Given t lent n left
     roomy true h e a l =
         let f : n ≡ length times = cc in
@@ -67,14 +59,14 @@ given t lent n left P = go (check_fault t) refl P.answer-is P.left_is
           fits = rw f (leb-true (length times) (length lent) h);
           front = rw f l;
         }
-    roomy false h e a l = let z : ◌≡◌ {A = ℕ} 0 1 = cc in absurd (omega arith)
+    roomy false h e a l = cc
 
     go : (o : Option Fault) → check_fault t ≡ o
         → gives n ≡ counted (and_then (unless o (plan_of t)) (λ p. unless (room (length p.times) (length lent)) p.times))
         → left ≡ written (and_then (unless o (plan_of t)) (λ p. unless (room (length p.times) (length lent)) p.times)) lent
         → Given t lent n left
-    go none e a l = roomy (leb (length times) (length lent)) refl e a l
-    go (some f) e a l = let z : ◌≡◌ {A = ℕ} 0 1 = cc in absurd (omega arith)
+    go None e a l = roomy (leb (length times) (length lent)) refl e a l
+    go (Some f) e a l = cc
 
 -- ---- the times that are left
 
@@ -87,7 +79,7 @@ pub record Solves (t : Table) (r d : ℕ → ℕ) : Type 0 where
   pub release-is : (j : ℕ) → j < job_count t → r j ≡ release_from t r j
   pub deadline-is : (j : ℕ) → j < job_count t → lift + d j ≡ deadline_from t (λ i. lift + d i) j
 
-module _ {t : Table} {lent : List ℕ} {n : ℕ} {left : List ℕ} (P : Plans t lent (Times n) left) where
+module _ {t : Table} {lent : List ℕ} {n : ℕ} {left : List ℕ} (P : Plans t lent (Ok n) left) where
   facts : Accepted t
   facts = accepted_facts t (given t lent n left P).accepted
 

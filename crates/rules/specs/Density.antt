@@ -1,6 +1,5 @@
 -- 01, "Density test".
-use Rattle.std.specs.Prelude.{Bool, false, cond, ◌&&◌, ◌||◌, not, [], ◌∷◌, ℕ, zero, suc, ◌+◌, ◌*◌, ◌/◌, ◌%◌, ltb, leb, eqb}
-use Rattle.std.proofs.Math.Option.{Option, none, some}
+use Rattle.std.specs.Prelude.{Bool, false, cond, ◌&&◌, ◌||◌, not, [], ◌∷◌, ℕ, zero, suc, ◌+◌, ◌*◌, ◌/◌, ◌%◌, ltb, leb, eqb, Option, None, Some}
 use Rattle.rules.specs.Rows.{count, sum, largest, first}
 use Rattle.rules.specs.Table.{Plan, job_count, cost, section_count, owner, resource, ticks_of, span}
 use Rattle.rules.specs.Refusals.{Fault, Outcome, unless, first_of, demand, plan_in_bounds}
@@ -53,8 +52,8 @@ most_multiple = 1_000_000_000
 
 -- The ceiling is at most D.
 abbrev pub ceiling_within : Option ℕ → ℕ → Bool
-ceiling_within none d = false
-ceiling_within (some c) d = leb c d
+ceiling_within None d = false
+ceiling_within (Some c) d = leb c d
 
 -- "b is the longest section of a job with larger D than the k-th, on a resource whose ceiling is at most the D of the k-th;
 -- 0 if none." Here the k-th is job j.
@@ -81,8 +80,8 @@ fails p m j = ltb m (density_sum p m j)
 
 -- "The answer is yes or no, and the lowest failing place, from 1; 0 with a yes."
 abbrev pub place_or_yes : Plan → Option ℕ → ℕ
-place_or_yes p none = 0
-place_or_yes p (some j) = place_of_job p j
+place_or_yes p None = 0
+place_or_yes p (Some j) = place_of_job p j
 
 -- The lowest failing place over the common multiple m: that of the first job, as they are sorted, whose place fails.
 unfoldable pub failing_place : Plan → ℕ → ℕ

@@ -1,6 +1,5 @@
 -- 01, "Shelf examples": those marked P, every fact stated of each, proved of the rules by computation.
-use Rattle.std.specs.Prelude.{refl, Bool, true, false, List, [], ◌∷◌, ℕ, pos, negsuc}
-use Rattle.std.proofs.Math.Option.{none, some}
+use Rattle.std.specs.Prelude.{refl, Bool, true, false, List, [], ◌∷◌, ℕ, pos, negsuc, None, Some}
 use Rattle.rules.specs.Claims.{Claim, ◌is◌, AllHold, ◌&◌}
 use Rattle.rules.specs.Table.{Table, Plan}
 use Rattle.rules.specs.Times.{new_release, new_deadline}
@@ -80,7 +79,7 @@ examples =
     ∷ (new_deadline p1 2 is pos 12)
     ∷ (check p1 is gives p1-plan)
     ∷ (schedule p1-plan (start p1-plan) all-answered
-    is (some 0 ∷ some 0 ∷ some 0 ∷ some 0 ∷ some 1 ∷ some 1 ∷ some 2 ∷ []))
+    is (Some 0 ∷ Some 0 ∷ Some 0 ∷ Some 0 ∷ Some 1 ∷ Some 1 ∷ Some 2 ∷ []))
     ∷ (waited p1-plan (start p1-plan) all-answered 1 is 2)
     ∷ (longest_later p1-plan 1 is 3)
     ∷ (read (text_of p1) is gives p1)
@@ -109,7 +108,7 @@ examples =
     ∷ (new_deadline p7 0 is negsuc 1)
     ∷ (check p7 is refused (fault 10 0))
     -- P8
-    ∷ (schedule (plan_of p8) (start (plan_of p8)) (false ∷ false ∷ false ∷ false ∷ []) is (none ∷ none ∷ none ∷ some 0 ∷ []))
+    ∷ (schedule (plan_of p8) (start (plan_of p8)) (false ∷ false ∷ false ∷ false ∷ []) is (None ∷ None ∷ None ∷ Some 0 ∷ []))
     ∷ ((end_state (plan_of p8)).finish is (4 ∷ []))
     ∷ (lateness (plan_of p8) (end_state (plan_of p8)) 0 is pos 0)
     -- P9

@@ -2,6 +2,7 @@
 pub mod Rows
 pub mod Table
 pub mod Lists
+pub mod Lent
 pub mod Times
 pub mod Refusals
 pub mod Text

@@ -10,6 +10,10 @@ table jobs arcs sections = record { jobs = jobs; arcs = arcs; sections = section
 abbrev pub plan : List ℕ → List ℕ → List ℕ → List ℕ → Plan
 plan jobs arcs sections times = record { table = table jobs arcs sections; times = times }
 
+-- A table and the modified times of its jobs.
+abbrev pub with_times : Table → List ℕ → Plan
+with_times t times = record { table = t; times = times }
+
 -- The tick and the three lists of a state.
 abbrev pub state : ℕ → List ℕ → List ℕ → List ℕ → State
 state tick executed marks finish = record { tick = tick; executed = executed; marks = marks; finish = finish }

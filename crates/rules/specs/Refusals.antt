@@ -1,6 +1,5 @@
 -- 01, "Numbered refusals": what is refused, with which number, at which place, in which order.
-use Rattle.std.specs.Prelude.{Bool, true, false, cond, not, ◌&&◌, ◌||◌, List, [], ◌∷◌, ◌++◌, ℕ, zero, suc, ◌+◌, ◌*◌, ◌%◌, length, ltb, leb, eqb}
-use Rattle.std.proofs.Math.Option.{Option, none, some}
+use Rattle.std.specs.Prelude.{Bool, true, false, cond, not, ◌&&◌, ◌||◌, List, [], ◌∷◌, ◌++◌, ℕ, zero, suc, ◌+◌, ◌*◌, ◌%◌, length, ltb, leb, eqb, Option, None, Some}
 use Rattle.rules.specs.Rows.{all, any, lowest}
 use Rattle.rules.specs.Table.{
   Table,
@@ -115,23 +114,23 @@ and_then (gives a) go = go a
 
 -- Refusals are looked for in a fixed order, and the first one found is given.
 abbrev pub first_of : List (Option Fault) → Option Fault
-first_of [] = none
-first_of (none ∷ later) = first_of later
-first_of (some f ∷ later) = some f
+first_of [] = None
+first_of (None ∷ later) = first_of later
+first_of (Some f ∷ later) = Some f
 
 -- The refusal, where there is one; else a is given.
 abbrev pub unless : {A : Type 0} → Option Fault → A → Outcome A
-unless none a = gives a
-unless (some f) a = refused f
+unless None a = gives a
+unless (Some f) a = refused f
 
 -- refusal n at place 0, where the test fails
 abbrev pub demand : Bool → ℕ → Option Fault
-demand right n = cond right none (some (fault n 0))
+demand right n = cond right None (Some (fault n 0))
 
 -- refusal n at the row that was found, if one was
 abbrev pub at_row : ℕ → Option ℕ → Option Fault
-at_row n none = none
-at_row n (some k) = some (fault n k)
+at_row n None = None
+at_row n (Some k) = Some (fault n k)
 
 -- ---- 2, 3, 4: counts and lengths
 
@@ -264,8 +263,8 @@ room needed lent = demand (leb needed lent) 11
 
 -- No refusal was found.
 abbrev pub accepted : Option Fault → Bool
-accepted none = true
-accepted (some f) = false
+accepted None = true
+accepted (Some f) = false
 
 -- The modified times of a job "lie in 0 to 1,000,000, window at least cost".
 unfoldable pub times_right : Plan → ℕ → Bool

@@ -1,6 +1,5 @@
 -- What is said of rows: of all below a bound, of some, how many, their sum, the largest, the lowest, the first in an order.
-use Rattle.std.specs.Prelude.{Bool, true, false, cond, ◌&&◌, ◌||◌, ℕ, zero, suc, ◌+◌, min, max}
-use Rattle.std.proofs.Math.Option.{Option, none, some}
+use Rattle.std.specs.Prelude.{Bool, true, false, cond, ◌&&◌, ◌||◌, ℕ, zero, suc, ◌+◌, min, max, Option, None, Some}
 
 -- every row below n passes
 unfoldable pub all : (ℕ → Bool) → ℕ → Bool
@@ -34,24 +33,24 @@ smallest passes f most (suc n) = cond (passes n) (min (smallest passes f most n)
 
 -- what was found so far, or else row n where it passes
 unfoldable pub or_else : Option ℕ → Bool → ℕ → Option ℕ
-or_else (some k) b n = some k
-or_else none true n = some n
-or_else none false n = none
+or_else (Some k) b n = Some k
+or_else None true n = Some n
+or_else None false n = None
 
 -- the lowest row below n that passes
 unfoldable pub lowest : (ℕ → Bool) → ℕ → Option ℕ
 unfolding or_else
-lowest f zero = none
+lowest f zero = None
 lowest f (suc n) = or_else (lowest f n) (f n) n
 
 -- the row `new` where it passes and comes before the best so far; else the best so far
 unfoldable pub better : (ℕ → ℕ → Bool) → Bool → ℕ → Option ℕ → Option ℕ
 better before false new best = best
-better before true new none = some new
-better before true new (some old) = cond (before new old) (some new) (some old)
+better before true new None = Some new
+better before true new (Some old) = cond (before new old) (Some new) (Some old)
 
 -- the first in the order of those rows below n that pass
 unfoldable pub first : (ℕ → ℕ → Bool) → (ℕ → Bool) → ℕ → Option ℕ
 unfolding better
-first before passes zero = none
+first before passes zero = None
 first before passes (suc n) = better before (passes n) n (first before passes n)

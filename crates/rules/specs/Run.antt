@@ -1,6 +1,5 @@
 -- 01, "One tick", over many ticks: a run from tick 0, its end, how late a job ends and how long it waits.
-use Rattle.std.specs.Prelude.{Bool, true, false, cond, ◌&&◌, List, [], ◌∷◌, ℕ, zero, suc, ◌+◌, ℤ, replicate}
-use Rattle.std.proofs.Math.Option.{Option, none, some}
+use Rattle.std.specs.Prelude.{Bool, true, false, cond, ◌&&◌, List, [], ◌∷◌, ℕ, zero, suc, ◌+◌, ℤ, replicate, Option, None, Some}
 use Rattle.std.proofs.Math.IntN.{sub_ℕ}
 use Rattle.rules.specs.Rows.{sum, largest}
 use Rattle.rules.specs.Table.{
@@ -70,8 +69,8 @@ lateness p st j = sub_ℕ (finish st j) (deadline p.table j)
 
 -- The tick goes to a job later than j in the order.
 abbrev pub goes_later : Plan → ℕ → Option ℕ → Bool
-goes_later p j none = false
-goes_later p j (some k) = comes_before p j k
+goes_later p j None = false
+goes_later p j (Some k) = comes_before p j k
 
 -- From its modified release to its finish, job j waits in a tick that goes to a later job.
 unfoldable pub waits : Plan → State → ℕ → Bool

@@ -1,6 +1,5 @@
 -- The smallest tables on which slips show that no P example of 01 catches: what the rules say of each.
-use Rattle.std.specs.Prelude.{refl, false, List, [], ◌∷◌, pos, negsuc}
-use Rattle.std.proofs.Math.Option.{some}
+use Rattle.std.specs.Prelude.{refl, false, List, [], ◌∷◌, pos, negsuc, Some}
 use Rattle.rules.specs.Claims.{Claim, ◌is◌, AllHold, ◌&◌}
 use Rattle.rules.specs.Table.{Table}
 use Rattle.rules.specs.Times.{new_deadline}
@@ -45,10 +44,10 @@ unfoldable pub slips : List Claim
 unfolding overtaking chain early standing equals behind_cycle
 slips =
     (schedule (plan_of overtaking) (start (plan_of overtaking)) (false ∷ false ∷ false ∷ false ∷ false ∷ false ∷ [])
-    is (some 0 ∷ some 0 ∷ some 0 ∷ some 0 ∷ some 2 ∷ some 1 ∷ []))
+    is (Some 0 ∷ Some 0 ∷ Some 0 ∷ Some 0 ∷ Some 2 ∷ Some 1 ∷ []))
     ∷ (new_deadline chain 0 is pos 4)
     ∷ (lateness (plan_of early) (end_state (plan_of early)) 0 is negsuc 8)
-    ∷ (schedule (plan_of standing) (start (plan_of standing)) (false ∷ false ∷ false ∷ []) is (some 0 ∷ some 1 ∷ some 0 ∷ []))
+    ∷ (schedule (plan_of standing) (start (plan_of standing)) (false ∷ false ∷ false ∷ []) is (Some 0 ∷ Some 1 ∷ Some 0 ∷ []))
     ∷ (density (plan_of equals) is gives 0)
     ∷ (check behind_cycle is refused (fault 9 1))
     -- the text: a leading zero, the largest number and the next, a blank, a missing line, bytes after the last line

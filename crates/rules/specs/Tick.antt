@@ -1,6 +1,5 @@
 -- 01, "One tick": who runs in a tick, and what the tick writes.
-use Rattle.std.specs.Prelude.{Bool, true, cond, ◌&&◌, ◌||◌, ℕ, ◌+◌, set, ltb, leb, eqb}
-use Rattle.std.proofs.Math.Option.{Option, none, some}
+use Rattle.std.specs.Prelude.{Bool, true, cond, ◌&&◌, ◌||◌, ℕ, ◌+◌, set, ltb, leb, eqb, Option, None, Some}
 use Rattle.rules.specs.Rows.{all, any, sum, first}
 use Rattle.rules.specs.Table.{
   Plan,
@@ -52,8 +51,8 @@ tightest p q =
 
 -- The relative deadline of a section's owner, where there is a section.
 abbrev pub span_of : Plan → Option ℕ → Option ℕ
-span_of p none = none
-span_of p (some s) = some (span p (owner p.table s))
+span_of p None = None
+span_of p (Some s) = Some (span p (owner p.table s))
 
 -- "A resource's ceiling is the smallest relative deadline of all jobs with a section on it, finished or not."
 unfoldable pub ceiling : Plan → ℕ → Option ℕ
@@ -62,8 +61,8 @@ ceiling p q = span_of p (tightest p q)
 
 -- "Strictly below the ceiling"; where nobody has a section there is none to be below.
 abbrev pub below_ceiling : ℕ → Option ℕ → Bool
-below_ceiling d none = true
-below_ceiling d (some c) = ltb d c
+below_ceiling d None = true
+below_ceiling d (Some c) = ltb d c
 
 -- ---- may it start?
 
@@ -106,8 +105,8 @@ first_started p st = first (comes_before p) (λ j. pending p st j && started st 
 -- 1. No pending job: an idle tick. 2. Otherwise take the first pending job. If it is started, it runs. 3. If it isn't, it
 -- runs exactly if it may start. 4. Otherwise the first started pending job runs.
 abbrev pub choose : Plan → State → Option ℕ → Option ℕ
-choose p st none = none
-choose p st (some j) = cond (started st j || may_start p st j) (some j) (first_started p st)
+choose p st None = None
+choose p st (Some j) = cond (started st j || may_start p st j) (Some j) (first_started p st)
 
 -- Who runs in the next tick; nobody where it is idle.
 unfoldable pub chosen : Plan → State → Option ℕ
@@ -147,8 +146,8 @@ advance p st silent j =
 
 -- What a choice does, whoever made it.
 abbrev pub move : Plan → State → Bool → Option ℕ → State
-move p st silent none = record { tick = st.tick + 1; executed = st.executed; marks = st.marks; finish = st.finish }
-move p st silent (some j) = advance p st silent j
+move p st silent None = record { tick = st.tick + 1; executed = st.executed; marks = st.marks; finish = st.finish }
+move p st silent (Some j) = advance p st silent j
 
 -- One tick, with its report.
 unfoldable pub tick : Plan → State → Bool → State

@@ -1,55 +1,26 @@
 #![tactic(auto)]
 // The types that every crate shares. What 01 says stands as definitions in specs/.
-ghost use Rattle.std.specs.Prelude.{◌≡◌, ◌-◌, ltb, eqb};
+pub mod plan;
+pub mod state;
+pub mod table;
+
+ghost use Rattle.std.specs.Prelude.{◌≡◌, ◌-◌};
 ghost use Rattle.rules.specs.Refusals.{number_of, place_of};
 
 // A point in time: a release, a deadline, a tick. Compared only with instants.
-#[derive(Clone, Copy)]
+#[derive(Clone, Copy, PartialEq, Eq, PartialOrd, Ord)]
 pub struct Instant(pub u32);
 
 // A length of time: a relative deadline. Compared only with spans.
-#[derive(Clone, Copy)]
+#[derive(Clone, Copy, PartialEq, Eq, PartialOrd, Ord)]
 pub struct Span(pub u32);
 
 impl Instant {
-    // Whether this instant is earlier than `other`.
-    pub fn earlier(self, other: Instant) -> bool
-        ensures { result ≡ ltb self.0 other.0 }
-    {
-        self.0 < other.0
-    }
-
-    // Whether the two are one instant.
-    pub fn same(self, other: Instant) -> bool
-        ensures { result ≡ eqb self.0 other.0 }
-    {
-        self.0 == other.0
-    }
-
     // How long after `from` this instant is: no time at all, where it is not after.
     pub fn since(self, from: Instant) -> Span
         ensures { result.0 ≡ self.0 - from.0 }
     {
-        if self.0 < from.0 {
-            return Span(0);
-        }
-        Span(self.0 - from.0)
-    }
-}
-
-impl Span {
-    // Whether this span is shorter than `other`.
-    pub fn below(self, other: Span) -> bool
-        ensures { result ≡ ltb self.0 other.0 }
-    {
-        self.0 < other.0
-    }
-
-    // Whether the two are one span.
-    pub fn same(self, other: Span) -> bool
-        ensures { result ≡ eqb self.0 other.0 }
-    {
-        self.0 == other.0
+        Span(self.0.saturating_sub(from.0))
     }
 }
 
@@ -73,7 +44,7 @@ pub enum Refusal {
 }
 
 impl Refusal {
-    // 01's number of the refusal.
+    // 01's number of the refusal: C and what is printed have it.
     pub fn number(self) -> u32
         ensures { result ≡ number_of self }
     {
@@ -100,20 +71,17 @@ impl Refusal {
         ensures { result ≡ place_of self }
     {
         match self {
-            Refusal::Text(line) => line,
-            Refusal::Jobs(line) => line,
-            Refusal::Arcs(line) => line,
-            Refusal::Sections(line) => line,
-            Refusal::JobOut(job) => job,
-            Refusal::ArcOut(arc) => arc,
-            Refusal::SectionOut(section) => section,
-            Refusal::Clash(section) => section,
-            Refusal::Cycle(job) => job,
-            Refusal::Window(job) => job,
-            Refusal::Room => 0,
-            Refusal::Bounds => 0,
-            Refusal::Finished => 0,
-            Refusal::Multiple => 0,
+            Refusal::Text(place)
+            | Refusal::Jobs(place)
+            | Refusal::Arcs(place)
+            | Refusal::Sections(place)
+            | Refusal::JobOut(place)
+            | Refusal::ArcOut(place)
+            | Refusal::SectionOut(place)
+            | Refusal::Clash(place)
+            | Refusal::Cycle(place)
+            | Refusal::Window(place) => place,
+            Refusal::Room | Refusal::Bounds | Refusal::Finished | Refusal::Multiple => 0,
         }
     }
 }

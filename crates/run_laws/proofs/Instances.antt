@@ -1,7 +1,6 @@
 -- The seven theorems at P1, and at P3 where the step at tick 5 is silent, with 01's numbers: none of them asks what can't be met.
 use Rattle.std.specs.Prelude.{◌≡◌, refl, ◌⊎◌, true, false, [], ◌∷◌, ℕ, ◌-◌, ◌≤◌, take}
-use Rattle.std.proofs.Common.{sym, ◌∙◌, inl, inr, arith}
-use Rattle.std.proofs.Math.Option.{none, some}
+use Rattle.std.proofs.Common.{sym, ◌∙◌, inl, inr, arith, None, Some}
 use Rattle.rules.specs.Table.{precedes, modified_deadline, mark, finish}
 use Rattle.rules.specs.Refusals.{gives, refused, fault, check, plan_in_bounds, finished, step_fault}
 use Rattle.rules.specs.Tick.{holds, covers, chosen, ends}
@@ -38,7 +37,7 @@ arc_1_2 = direct refl
 -- What each theorem says at P1, all reports answered, and at P3.
 pub record AtP1 : Type 0 where
   -- (a) tick 6 goes to job 2, and job 1, its ancestor, has finished
-  pub tick_6_of_2 : chosen p1-plan (state_at p1-plan all-answered 6) ≡ some 2
+  pub tick_6_of_2 : chosen p1-plan (state_at p1-plan all-answered 6) ≡ Some 2
   pub job_1_before : finished p1-plan (state_at p1-plan all-answered 6) 1 ≡ true
   -- (b) at tick 2 job 0 holds its section on resource 0, and job 1 is not inside its own
   pub job_0_inside : Inside p1-plan (state_at p1-plan all-answered 2) 0
@@ -57,8 +56,8 @@ pub record AtP1 : Type 0 where
   pub section_3 : longest_later p1-plan 1 ≡ 3
   pub two_at_most : 2 ≤ longest_later p1-plan 1 - 1
   -- (e) tick 2, at which jobs 1 and 2 are released, is not idle; tick 7 is, and all have finished
-  pub tick_2_busy : chosen p1-plan (state_at p1-plan all-answered 2) ≡ none → ⊥
-  pub tick_7_idle : chosen p1-plan (after_reports p1-plan all-answered) ≡ none
+  pub tick_2_busy : chosen p1-plan (state_at p1-plan all-answered 2) ≡ None → ⊥
+  pub tick_7_idle : chosen p1-plan (after_reports p1-plan all-answered) ≡ None
   pub job_2_done : finished p1-plan (after_reports p1-plan all-answered) 2 ≡ true
   -- (f) all end by 2 + 7; they end at 4, 6 and 7
   pub end_by_9 : all_end_by p1-plan ≡ 9
@@ -66,13 +65,13 @@ pub record AtP1 : Type 0 where
   pub in_time : (j : ℕ) → finish (after_reports p1-plan all-answered) j ≤ 9
   -- the seven steps are taken, and an eighth is refused with 13
   pub seven_steps : steps p1-plan (start p1-plan) all-answered ≡ gives (after_reports p1-plan all-answered)
-  pub eighth_step : step_fault p1-plan (after_reports p1-plan all-answered) ≡ some (fault 13 0)
+  pub eighth_step : step_fault p1-plan (after_reports p1-plan all-answered) ≡ Some (fault 13 0)
   pub eight_steps : steps p1-plan (start p1-plan) (false ∷ all-answered) ≡ refused (fault 13 0)
   -- the program's end state is the one after these seven
   pub end_at_7 : end_state p1-plan ≡ after_reports p1-plan all-answered
   pub end_in_time : (end_reached p1-plan p1_in_bounds).0 ≤ 9
   -- 003, definition 3.3: job 1 has a tick before job 2, released with it, and an earlier deadline
-  pub tick_4_of_1 : chosen p1-plan (state_at p1-plan all-answered 4) ≡ some 1
+  pub tick_4_of_1 : chosen p1-plan (state_at p1-plan all-answered 4) ≡ Some 1
   pub due_before : modified_deadline p1-plan 1 ≤ modified_deadline p1-plan 2
 
 silent_at_5 : EndedSilent p1-plan tick_5_silent 1
@@ -95,7 +94,7 @@ at-p1 =
       job_0_fresh = refl;
       waits_for_0 = (
           let w : (who : ℕ) × WaitsOnlyFor p1-plan all-answered 1 who = (waits_bounded p1 p1-plan p1-accepted all-answered 1).0 in
-          let e : some 0 ≡ some w.0 = w.1 2 (omega arith) refl in
+          let e : Some 0 ≡ Some w.0 = w.1 2 (omega arith) refl in
           λ n l h. w.1 n l h ∙ sym e
           );
       waits_two = refl;

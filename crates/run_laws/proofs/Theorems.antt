@@ -1,9 +1,8 @@
 -- Demand 3 proved: each statement of Statement, from the theory of runs.
 use Rattle.std.specs.Prelude.{◌≡◌, ◌⊎◌, Bool, ◌&&◌, List, [], ◌∷◌, length, drop}
 use Rattle.std.proofs.Math.Path.{refl, ap}
-use Rattle.std.proofs.Common.{sym, ◌∙◌, subst, inl, inr, drop-cons}
+use Rattle.std.proofs.Common.{sym, ◌∙◌, subst, inl, inr, drop-cons, Option, None, Some}
 use Rattle.std.proofs.Math.Bool.{true, false, cond}
-use Rattle.std.proofs.Math.Option.{Option, none, some}
 use Prim.Native.Nat.{ℕ, zero, suc, ◌+◌, ◌-◌, ◌≤◌, ◌<◌}
 use native.Mathlib.Omega.{arith}
 use Rattle.std.proofs.Math.Dec.{ltb, leb}
@@ -159,8 +158,8 @@ module _ (p : Plan) (S : Sound p) where
 
     -- (d)
     goes-is : (k j : ℕ) → j < job_count p.table → (o : Option ℕ) → chosen p (at k) ≡ o → goes_later p j o ≡ goes_after J Z C R rules j o
-    goes-is k j l none c = refl
-    goes-is k j l (some x) c = before-is p j x l (pending_in J (chosen-pending J R {k = k} c))
+    goes-is k j l None c = refl
+    goes-is k j l (Some x) c = before-is p j x l (pending_in J (chosen-pending J R {k = k} c))
 
     pending-is : (j k : ℕ) → pending p (at k) j ≡ pend J k (executed (at k)) j
     unfolding pending
@@ -183,7 +182,7 @@ module _ (p : Plan) (S : Sound p) where
         waited-is p reports j ∙ count_ext (λ k. waits p (at k) j) (waits_at J Z C R rules j) (length reports) (λ k l. waits-is j k)
 
     only_for : (j who : ℕ)
-        → ((k : ℕ) → k < length reports → waits_at J Z C R rules j k ≡ true → chosen p (at k) ≡ some who)
+        → ((k : ℕ) → k < length reports → waits_at J Z C R rules j k ≡ true → chosen p (at k) ≡ Some who)
         → WaitsOnlyFor p reports j who
     only_for j who h k l w =
         let q = front_is p reports k (omega arith) in
@@ -232,7 +231,7 @@ module _ (p : Plan) (S : Sound p) where
         ∙ go (all_finished p (at n))
       where
         go : (b : Bool)
-            → and_then (unless (cond b (some (fault 13 0)) none) (tick p (at n) (report_in reports n))) (λ next. steps p next rest)
+            → and_then (unless (cond b (Some (fault 13 0)) None) (tick p (at n) (report_in reports n))) (λ next. steps p next rest)
             ≡ cond b (refused (fault 13 0)) (steps p (tick p (at n) (report_in reports n)) rest)
         go true = refl
         go false = refl

@@ -1,9 +1,8 @@
 -- The clauses on ancestors, marks, idling and ends, over states, for any choice of the class.
-use Rattle.std.specs.Prelude.{◌≡◌, ◌≢◌, ◌↔◌, ◌⊎◌, Bool, not, [], ◌∷◌, ℕ, zero, suc, ◌≤◌, ◌<◌, length}
+use Rattle.std.specs.Prelude.{◌≡◌, ◌≢◌, ◌↔◌, ◌⊎◌, Bool, not, [], ◌∷◌, ℕ, zero, suc, ◌≤◌, ◌<◌, length, Option, None, Some}
 use Rattle.std.proofs.Math.Path.{refl}
 use Rattle.std.proofs.Common.{inl, inr}
 use Rattle.std.proofs.Math.Bool.{true, false, cond}
-use Rattle.std.proofs.Math.Option.{Option, none, some}
 use Rattle.std.proofs.Math.Decide.{dec_le}
 use native.Mathlib.Omega.{arith}
 use borrow.Author.Tests.{lt-ltb, le-leb, eq-eqb}
@@ -66,10 +65,10 @@ module _ (p : Plan) (rows : RowsRight p.table) where
     is-finished k j l = yes_of (finished_says (on k) j) (λ n. n (let w = within JR RR k j in omega arith))
 
     -- A tick is idle exactly if no released job is unfinished.
-    pub idle_at : (k : ℕ) → (ch (on k) ≡ none) ↔ ((j : ℕ) → modified_release p j ≤ (on k).tick → finished p (on k) j ≡ true)
+    pub idle_at : (k : ℕ) → (ch (on k) ≡ None) ↔ ((j : ℕ) → modified_release p j ≤ (on k).tick → finished p (on k) j ≡ true)
     idle_at k = (go, back)
       where
-        go : ch (on k) ≡ none → (j : ℕ) → modified_release p j ≤ (on k).tick → finished p (on k) j ≡ true
+        go : ch (on k) ≡ None → (j : ℕ) → modified_release p j ≤ (on k).tick → finished p (on k) j ≡ true
         go c j l =
             is-finished k j
             (elim (dec_le (cost p.table j) (executed (on k) j)) [
@@ -80,12 +79,12 @@ module _ (p : Plan) (rows : RowsRight p.table) where
                   (record { released = omega (arith, (good p ch report k).tick_is); unfinished = omega arith }))
             ])
 
-        back : ((j : ℕ) → modified_release p j ≤ (on k).tick → finished p (on k) j ≡ true) → ch (on k) ≡ none
+        back : ((j : ℕ) → modified_release p j ≤ (on k).tick → finished p (on k) j ≡ true) → ch (on k) ≡ None
         back h = out (ch (on k)) refl
           where
-            out : (o : Option ℕ) → ch (on k) ≡ o → o ≡ none
-            out none c = refl
-            out (some x) c =
+            out : (o : Option ℕ) → ch (on k) ≡ o → o ≡ None
+            out None c = refl
+            out (Some x) c =
                 let w = chosen-pending JR RR {k = k} {x = x} c in
                 absurd
                 (omega (
@@ -142,7 +141,7 @@ module _ (p : Plan) (S : Sound p) where
     M = marks_of p S ch class report
 
     -- What is chosen has no unfinished ancestor.
-    pub ancestors-at : (k i j : ℕ) → ch (at k) ≡ some j → Ancestor p.table i j → finished p (at k) i ≡ true
+    pub ancestors-at : (k i j : ℕ) → ch (at k) ≡ Some j → Ancestor p.table i j → finished p (at k) i ≡ true
     ancestors-at k i j c a =
         let h = forward p S a in
         is-finished p S.rows ch class report k i (earlier_finished J R k i j c h.0 h.1)
@@ -165,7 +164,7 @@ module _ (p : Plan) (S : Sound p) where
         go (stale v d i a b) = (inr v, ((λ e. (i, a, b)), (λ w. v)))
 
     -- 003, definition 3.3
-    pub quasi_at : (m n i j : ℕ) → m < n → ch (at m) ≡ some j → ch (at n) ≡ some i
+    pub quasi_at : (m n i j : ℕ) → m < n → ch (at m) ≡ Some j → ch (at n) ≡ Some i
         → modified_release p i ≤ modified_release p j → modified_deadline p j ≤ modified_deadline p i
     quasi_at m n i j l a b r =
         key_due p j i
@@ -211,7 +210,7 @@ module _ (p : Plan) (S : Sound p) where
         )
 
     -- Before the last tick a step is refused exactly if all have finished, with 13.
-    pub step-at : (k : ℕ) → k < last_tick → step_fault p (at k) ≡ cond (all_finished p (at k)) (some (fault 13 0)) none
+    pub step-at : (k : ℕ) → k < last_tick → step_fault p (at k) ≡ cond (all_finished p (at k)) (Some (fault 13 0)) None
     unfolding step_fault
     step-at k l =
         simp (
@@ -220,7 +219,7 @@ module _ (p : Plan) (S : Sound p) where
           lt-ltb (at k).tick last_tick (omega (arith, (good p ch report k).tick_is)),
         ) (go (all_finished p (at k)))
       where
-        go : (b : Bool) → first_of (demand (not b) 13 ∷ []) ≡ cond b (some (fault 13 0)) none
+        go : (b : Bool) → first_of (demand (not b) 13 ∷ []) ≡ cond b (Some (fault 13 0)) None
         go true = refl
         go false = refl
 

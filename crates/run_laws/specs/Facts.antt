@@ -1,7 +1,6 @@
 -- What the theorems use of an accepted table: right rows, sections that nest, and ancestors that come before.
-use Rattle.std.specs.Prelude.{◌≡◌, refl, ◌⊎◌, true, false, ℕ, ◌≤◌, ◌<◌}
+use Rattle.std.specs.Prelude.{◌≡◌, refl, ◌⊎◌, true, false, ℕ, ◌≤◌, ◌<◌, None}
 use Rattle.std.proofs.Common.{sym, ap, inl, inr, ⊎_elim, arith}
-use Rattle.std.proofs.Math.Option.{none}
 use Rattle.rules.specs.Table.{Table, Plan, latest, job_count, precedes, section_count, modified_release}
 use Rattle.rules.specs.Order.{comes_before}
 use Rattle.rules.specs.Refusals.{gives, clashes, check_fault, plan_of, check, plan_in_bounds}
@@ -27,7 +26,7 @@ pub record Sound (p : Plan) : Type 0 where
   pub within_bounds : plan_in_bounds p ≡ true
 
 -- The plan of every accepted table is so.
-plan_sound : (t : Table) → check_fault t ≡ none → Sound (plan_of t)
+plan_sound : (t : Table) → check_fault t ≡ None → Sound (plan_of t)
 unfolding plan_of
 plan_sound t e =
     let A = accepted_facts t e in

@@ -1,8 +1,7 @@
 -- Marks and finishes in a run of any choice of the class: a finished job is stale exactly if it or an ancestor ended badly,
 -- and its finish is the tick after the one that ended it.
-use Rattle.std.specs.Prelude.{◌≡◌, refl, ◌≢◌, ◌⊎◌, ℕ, zero, suc, ◌+◌, ◌≤◌, ◌<◌}
+use Rattle.std.specs.Prelude.{◌≡◌, refl, ◌≢◌, ◌⊎◌, ℕ, zero, suc, ◌+◌, ◌≤◌, ◌<◌, Option, Some}
 use Rattle.std.proofs.Common.{sym, ◌∙◌, ap, inl, inr, ⊎_elim, arith}
-use Rattle.std.proofs.Math.Option.{Option, some}
 use Rattle.std.proofs.Math.Decide.{ℕ_discrete, dec_lt}
 use Rattle.rules.specs.Rows.{sum}
 use Rattle.run_laws.specs.Theory.{
@@ -41,12 +40,12 @@ module _ (J : Jobs) (K : Kin J) where
   -- What the tick t writes into marks and finishes: nothing, if it ends no job; else the mark and the finish of that job.
   pub data Writes (Bad : ℕ → Type 0) (t : ℕ) (e m m' f f' : ℕ → ℕ) : Option ℕ → Type 0 where
     nothing : {o : Option ℕ}
-        → ((x : ℕ) → o ≡ some x → suc (e x) ≢ J.cost x)
+        → ((x : ℕ) → o ≡ Some x → suc (e x) ≢ J.cost x)
         → ((j : ℕ) → m' j ≡ m j) → ((j : ℕ) → f' j ≡ f j) → Writes Bad t e m m' f f' o
     ending : {x : ℕ}
         → suc (e x) ≡ J.cost x
         → MarkRule (Bad x) m x (m' x) → ((j : ℕ) → j ≢ x → m' j ≡ m j)
-        → f' x ≡ suc t → ((j : ℕ) → j ≢ x → f' j ≡ f j) → Writes Bad t e m m' f f' (some x)
+        → f' x ≡ suc t → ((j : ℕ) → j ≢ x → f' j ≡ f j) → Writes Bad t e m m' f f' (Some x)
 
   -- Marks and finishes beside a run; Bad k x says that job x, if tick k ends it, ends badly.
   pub record Marks (R : Run J) (Bad : ℕ → ℕ → Type 0) : Type 0 where
@@ -59,7 +58,7 @@ module _ (J : Jobs) (K : Kin J) where
   module _ (R : Run J) (Bad : ℕ → ℕ → Type 0) where
     -- Tick s ended job i.
     pub record Ended (s i : ℕ) : Type 0 where
-      pub chosen : R.pick s ≡ some i
+      pub chosen : R.pick s ≡ Some i
       pub full : suc (R.e s i) ≡ J.cost i
 
     -- Job i ended badly before tick k.
@@ -173,7 +172,7 @@ module _ (J : Jobs) (K : Kin J) where
               → Writes (Bad k) k (R.e k) (M.mark k) (M.mark (suc k)) (M.finish k) (M.finish (suc k)) o
               → ((i : ℕ) → 0 < J.cost i → Marked k i) → Marked (suc k) j
           go o p (nothing n same _) ih = keeps k j c (λ w. n j (sym p ∙ w.chosen) w.full) (same j) (ih j c)
-          go (some x) p (ending l rule same _ _) ih =
+          go (Some x) p (ending l rule same _ _) ih =
               elim (ℕ_discrete j x) [
                 | yes q ↦ rw q (ends_marked k x (record { chosen = p; full = l }) ih rule)
                 | no q ↦
@@ -199,7 +198,7 @@ module _ (J : Jobs) (K : Kin J) where
               → Writes (Bad k) k (R.e k) (M.mark k) (M.mark (suc k)) (M.finish k) (M.finish (suc k)) o
               → Finish k j → Finish (suc k) j
           go o p (nothing n _ same) ih = keeps_finish k j (λ w. n j (sym p ∙ w.chosen) w.full) (same j) ih
-          go (some x) p (ending l _ _ f same) ih =
+          go (Some x) p (ending l _ _ f same) ih =
               elim (ℕ_discrete j x) [
                 | yes q ↦ rw q (ended_at k (omega arith) f (record { chosen = p; full = l }))
                 | no q ↦ keeps_finish k j (λ w. q (let y : x ≡ j = cc (p, w.chosen) in sym y)) (same j q) ih

@@ -1,8 +1,7 @@
 -- A plan with right rows is what the theory speaks of, and the rules' choice is one by rules 1 to 4.
-use Rattle.std.specs.Prelude.{◌≡◌, ◌≢◌, ◌⊎◌, Bool, true, false, cond, ◌&&◌, ◌||◌, ℕ, ◌≤◌, ◌<◌}
+use Rattle.std.specs.Prelude.{◌≡◌, ◌≢◌, ◌⊎◌, Bool, true, false, cond, ◌&&◌, ◌||◌, ℕ, ◌≤◌, ◌<◌, Option, Some}
 use Rattle.std.proofs.Math.Path.{refl}
 use Rattle.std.proofs.Common.{sym, ◌∙◌, ⊎_elim, arith}
-use Rattle.std.proofs.Math.Option.{Option, some}
 use Rattle.std.proofs.Math.Decide.{dec_lt}
 use Rattle.std.proofs.Math.ListN.{get_or-eq_default}
 use Rattle.rules.specs.Table.{
@@ -200,7 +199,7 @@ module _ (p : Plan) (rows : RowsRight p.table) where
         ((q : ℕ) → q < resources → clears p (span p x) q (Tick.held p st q) ≡ true)
         ((q : ℕ) × (q < resources) × (clears p (span p x) q (Tick.held p st q) ≡ false))
         b
-        → ByRules jobs_of sections_of ceilings_of st.tick (executed st) (cond (a || b) (some x) (first_started p st))
+        → ByRules jobs_of sections_of ceilings_of st.tick (executed st) (cond (a || b) (Some x) (first_started p st))
     unfolding first_started
     by_rules {x} f (so s) m = resumes f s
     by_rules {x} f (not_so z) (so m) = opens f (omega arith) (clear_all x m)

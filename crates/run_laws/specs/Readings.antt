@@ -1,7 +1,6 @@
 -- Readings of demand 3 that are false, each refuted by a smallest table. The must-fail edits make the statements these.
-use Rattle.std.specs.Prelude.{◌≡◌, refl, ◌↔◌, ◌⊎◌, Bool, true, false, cond, ◌&&◌, List, [], ◌∷◌, ℕ, zero, suc, ◌-◌, ◌≤◌, ◌<◌, length, get_or, ltb, leb}
+use Rattle.std.specs.Prelude.{◌≡◌, refl, ◌↔◌, ◌⊎◌, Bool, true, false, cond, ◌&&◌, List, [], ◌∷◌, ℕ, zero, suc, ◌-◌, ◌≤◌, ◌<◌, length, get_or, ltb, leb, Option, None, Some}
 use Rattle.std.proofs.Common.{sym, inl, inr, arith}
-use Rattle.std.proofs.Math.Option.{Option, none, some}
 use Rattle.rules.specs.Rows.{any, count, largest}
 use Rattle.rules.specs.Table.{
   Table,
@@ -74,7 +73,7 @@ MarksByAnySilence =
     → (j : ℕ) → j < job_count t → finished p (after_reports p reports) j ≡ true
     → (mark (after_reports p reports) j ≡ 2)
     ↔ ((i : ℕ) × ((i ≡ j) ⊎ Ancestor t i j)
-    × ((n : ℕ) × (n < length reports) × (chosen p (state_at p reports n) ≡ some i) × (get_or reports n false ≡ true)))
+    × ((n : ℕ) × (n < length reports) × (chosen p (state_at p reports n) ≡ Some i) × (get_or reports n false ≡ true)))
 
 pub any_silence_false : MarksByAnySilence → ⊥
 unfolding check plan_of two_ticks chosen after_reports
@@ -151,12 +150,12 @@ abbrev pub IdleAtRelease : Type 0
 IdleAtRelease =
     (t : Table) (p : Plan) → check t ≡ gives p → (reports : List Bool)
     → ((j : ℕ) → modified_release p j < (after_reports p reports).tick → finished p (after_reports p reports) j ≡ true)
-    → chosen p (after_reports p reports) ≡ none
+    → chosen p (after_reports p reports) ≡ None
 
 pub idle_at_release_false : IdleAtRelease → ⊥
 unfolding check plan_of one chosen after_reports start
 idle_at_release_false h =
-    let e : ◌≡◌ {A = Option ℕ} (some 0) none = h one (plan_of one) refl [] (λ j l. absurd (omega arith)) in
+    let e : ◌≡◌ {A = Option ℕ} (Some 0) None = h one (plan_of one) refl [] (λ j l. absurd (omega arith)) in
     idle_not (sym e)
 
 -- (f), one tick earlier: after no tick the job has not finished, and it is to end by tick 1.

@@ -1,10 +1,9 @@
 -- Sections and ceilings in a run of 01's rules 1 to 4, from two laws of `clears`: what a started unfinished job clears, and
 -- that no two jobs are inside sections of one resource.
-use Rattle.std.specs.Prelude.{◌≡◌, refl, ◌≢◌, ◌⊎◌, Bool, true, ◌&&◌, ℕ, zero, suc, ◌+◌, ◌≤◌, ◌<◌, ltb, leb, eqb}
+use Rattle.std.specs.Prelude.{◌≡◌, refl, ◌≢◌, ◌⊎◌, Bool, true, ◌&&◌, ℕ, zero, suc, ◌+◌, ◌≤◌, ◌<◌, ltb, leb, eqb, Option, None, Some}
 use Rattle.std.proofs.Common.{sym, inl, inr, ⊎_elim, arith}
 use Rattle.std.proofs.Math.Path.{ap}
 use Rattle.std.proofs.Math.Bool.{cond}
-use Rattle.std.proofs.Math.Option.{Option, none, some}
 use Rattle.std.proofs.Math.Decide.{ℕ_discrete, dec_lt}
 use Rattle.rules.specs.Rows.{sum}
 use Rattle.laws.specs.Tests.{
@@ -203,10 +202,10 @@ module _ (J : Jobs) (Z : Sections) (C : Ceilings J Z) where
 
   -- 01's four rules: nobody is pending; the first one goes on; the first one starts; or it may not, and a started one runs
   pub data ByRules (t : ℕ) (e : ℕ → ℕ) : Option ℕ → Type 0 where
-    nobody : ((j : ℕ) → Pending J t e j → ⊥) → ByRules t e none
-    resumes : {x : ℕ} → First J t e x → 0 < e x → ByRules t e (some x)
-    opens : {x : ℕ} → First J t e x → e x ≡ 0 → ((q : ℕ) → C.clears (C.span x) q (held Z (pend J t e) e q)) → ByRules t e (some x)
-    detains : {x : ℕ} → Detained t e x → ByRules t e (some x)
+    nobody : ((j : ℕ) → Pending J t e j → ⊥) → ByRules t e None
+    resumes : {x : ℕ} → First J t e x → 0 < e x → ByRules t e (Some x)
+    opens : {x : ℕ} → First J t e x → e x ≡ 0 → ((q : ℕ) → C.clears (C.span x) q (held Z (pend J t e) e q)) → ByRules t e (Some x)
+    detains : {x : ℕ} → Detained t e x → ByRules t e (Some x)
 
   -- they are a choice of the class
   pub in_class : {t : ℕ} {e : ℕ → ℕ} {o : Option ℕ} → ByRules t e o → Choice J t e o
@@ -216,21 +215,21 @@ module _ (J : Jobs) (Z : Sections) (C : Ceilings J Z) where
   in_class (detains d) = runs d.lead.ready (λ z. absurd (omega (arith, d.lead.begun)))
 
   -- the chosen job comes before every other started pending one
-  pub chosen_leads : {t : ℕ} {e : ℕ → ℕ} {x : ℕ} → ByRules t e (some x)
+  pub chosen_leads : {t : ℕ} {e : ℕ → ℕ} {x : ℕ} → ByRules t e (Some x)
       → (g : ℕ) → Pending J t e g → 0 < e g → g ≢ x → J.key x < J.key g
   chosen_leads (resumes f l) g p s n = f.leads g p n
   chosen_leads (opens f z c) g p s n = f.leads g p n
   chosen_leads (detains d) g p s n = d.lead.leads g p s n
 
   -- a chosen job that was not started has passed the test
-  passed : {t : ℕ} {e : ℕ → ℕ} {x : ℕ} → ByRules t e (some x) → e x ≡ 0
+  passed : {t : ℕ} {e : ℕ → ℕ} {x : ℕ} → ByRules t e (Some x) → e x ≡ 0
       → (q : ℕ) → C.clears (C.span x) q (held Z (pend J t e) e q)
   passed (resumes f l) z = absurd (omega arith)
   passed (opens f _ c) z = c
   passed (detains d) z = absurd (omega (arith, d.lead.begun))
 
   module _ (R : Run J) (rules : (k : ℕ) → ByRules k (R.e k) (R.pick k)) where
-    pub rule_of : {k x : ℕ} → R.pick k ≡ some x → ByRules k (R.e k) (some x)
+    pub rule_of : {k x : ℕ} → R.pick k ≡ Some x → ByRules k (R.e k) (Some x)
     rule_of {k} c = rw c at (rules k)
 
     -- a started unfinished job is pending
@@ -259,7 +258,7 @@ module _ (J : Jobs) (Z : Sections) (C : Ceilings J Z) where
         (λ τ h. hold_on Z (later_still s l (after_is J h.who)) h.who h)
 
     -- when x starts, what pending jobs hold is what jobs later than x hold
-    start-held : (k x q : ℕ) → R.pick k ≡ some x → R.e k x ≡ 0
+    start-held : (k x q : ℕ) → R.pick k ≡ Some x → R.e k x ≡ 0
         → held Z (after J x) (R.e (suc k)) q ≡ held Z (pend J k (R.e k)) (R.e k) q
     start-held k x q c z =
         held_same Z (after J x) (pend J k (R.e k)) (R.e (suc k)) (R.e k) q
@@ -286,7 +285,7 @@ module _ (J : Jobs) (Z : Sections) (C : Ceilings J Z) where
               (let u : R.e k x < J.cost x = omega (arith, grows J (R.frame k) x) in
               rw (later-held k x q b u) (clear k x b u q))
           | no b ↦
-              (let c : R.pick k ≡ some x = raised-chosen J R (omega arith) in
+              (let c : R.pick k ≡ Some x = raised-chosen J R (omega arith) in
               let z : R.e k x ≡ 0 = omega arith in
               rw (start-held k x q c z) (passed (rule_of c) z q))
         ]
@@ -304,7 +303,7 @@ module _ (J : Jobs) (Z : Sections) (C : Ceilings J Z) where
     -- A job is inside a section: it holds it at the decision, or it's chosen and the section covers the tick.
     pub data Inside (k s : ℕ) : Type 0 where
       holding : Holds Z (R.e k) s → Inside k s
-      covered : R.pick k ≡ some (Z.owner s) → Z.from s ≤ R.e k (Z.owner s) → R.e k (Z.owner s) < Z.to s → Inside k s
+      covered : R.pick k ≡ Some (Z.owner s) → Z.from s ≤ R.e k (Z.owner s) → R.e k (Z.owner s) < Z.to s → Inside k s
 
     -- two holders, the first of them first in the order
     two_hold : {k s τ : ℕ} → Z.resource τ ≡ Z.resource s → C.total (Z.resource s) < Z.units s + Z.units τ
@@ -315,7 +314,7 @@ module _ (J : Jobs) (Z : Sections) (C : Ceilings J Z) where
 
     -- one runs in its section, another holds
     runs_holds : {k s τ : ℕ} → Z.resource τ ≡ Z.resource s → C.total (Z.resource s) < Z.units s + Z.units τ
-        → R.pick k ≡ some (Z.owner s) → R.e k (Z.owner s) < Z.to s → Z.owner τ ≢ Z.owner s → Holds Z (R.e k) τ → ⊥
+        → R.pick k ≡ Some (Z.owner s) → R.e k (Z.owner s) < Z.to s → Z.owner τ ≢ Z.owner s → Holds Z (R.e k) τ → ⊥
     runs_holds {k} {s} {τ} r t c l n g =
         elim (dec_lt 0 (R.e k (Z.owner s))) [
           | yes b ↦

@@ -1,6 +1,5 @@
 -- Demand 3: what is so of every run of an accepted table, whatever the reports. Only statements; their proofs are Theorems.
-use Rattle.std.specs.Prelude.{◌≡◌, ◌↔◌, ◌⊎◌, Bool, true, false, cond, List, [], ◌∷◌, ℕ, ◌-◌, ◌≤◌, ◌<◌, length, get_or, take, replicate}
-use Rattle.std.proofs.Math.Option.{none, some}
+use Rattle.std.specs.Prelude.{◌≡◌, ◌↔◌, ◌⊎◌, Bool, true, false, cond, List, [], ◌∷◌, ℕ, ◌-◌, ◌≤◌, ◌<◌, length, get_or, take, replicate, None, Some}
 use Rattle.rules.specs.Rows.{any}
 use Rattle.rules.specs.Table.{
   Table,
@@ -52,13 +51,13 @@ Later p j k = comes_before p j k ≡ true
 -- The job of a section is inside it: it holds it at the decision, or the tick is its and the section covers that tick.
 pub data Inside (p : Plan) (st : State) (s : ℕ) : Type 0 where
   while_held : holds p st s ≡ true → Inside p st s
-  in_its_tick : chosen p st ≡ some (owner p.table s) → covers p st s ≡ true → Inside p st s
+  in_its_tick : chosen p st ≡ Some (owner p.table s) → covers p st s ≡ true → Inside p st s
 
 -- Job i ended silent: the tick at some place was its last one, and the report at that place was silent.
 pub record EndedSilent (p : Plan) (reports : List Bool) (i : ℕ) : Type 0 where
   pub place : ℕ
   pub reported : place < length reports
-  pub its_tick : chosen p (state_at p reports place) ≡ some i
+  pub its_tick : chosen p (state_at p reports place) ≡ Some i
   pub its_last : ends p (state_at p reports place) i ≡ true
   pub silent : get_or reports place false ≡ true
 
@@ -69,7 +68,7 @@ pub record EndedSilent (p : Plan) (reports : List Bool) (i : ℕ) : Type 0 where
 -- All the ticks in which job j waits go to the job `who`.
 abbrev pub WaitsOnlyFor : Plan → List Bool → ℕ → ℕ → Type 0
 WaitsOnlyFor p reports j who =
-    (n : ℕ) → n < length reports → waits p (state_at p reports n) j ≡ true → chosen p (state_at p reports n) ≡ some who
+    (n : ℕ) → n < length reports → waits p (state_at p reports n) j ≡ true → chosen p (state_at p reports n) ≡ Some who
 
 -- What job j waited for: nothing; or a section of a later job, to which all those ticks go, fewer than the section has.
 pub data WaitedFor (p : Plan) (reports : List Bool) (j : ℕ) : Type 0 where
@@ -96,7 +95,7 @@ steps p st (silent ∷ rest) = and_then (step p st silent) (λ next. steps p nex
 abbrev pub AncestorsFirst : Type 0
 AncestorsFirst =
     (t : Table) (p : Plan) → check t ≡ gives p → (reports : List Bool)
-    → (i j : ℕ) → chosen p (after_reports p reports) ≡ some j → Ancestor t i j → finished p (after_reports p reports) i ≡ true
+    → (i j : ℕ) → chosen p (after_reports p reports) ≡ Some j → Ancestor t i j → finished p (after_reports p reports) i ≡ true
 
 -- (b) No two jobs are inside sections of one resource at once.
 abbrev pub OneInside : Type 0
@@ -124,7 +123,7 @@ WaitsBounded =
 abbrev pub NeverIdle : Type 0
 NeverIdle =
     (t : Table) (p : Plan) → check t ≡ gives p → (reports : List Bool)
-    → (chosen p (after_reports p reports) ≡ none)
+    → (chosen p (after_reports p reports) ≡ None)
     ↔ ((j : ℕ) → modified_release p j ≤ (after_reports p reports).tick → finished p (after_reports p reports) j ≡ true)
 
 -- (f) All end by the largest modified release plus the sum of costs: after so many reports every job has finished, no finish
@@ -142,7 +141,7 @@ abbrev pub StepsAreTicks : Type 0
 StepsAreTicks =
     (t : Table) (p : Plan) → check t ≡ gives p → (reports : List Bool)
     → (length reports < last_tick
-    → step_fault p (after_reports p reports) ≡ cond (all_finished p (after_reports p reports)) (some (fault 13 0)) none)
+    → step_fault p (after_reports p reports) ≡ cond (all_finished p (after_reports p reports)) (Some (fault 13 0)) None)
     × (steps p (start p) reports
     ≡ cond
     (any (λ n. all_finished p (state_at p reports n)) (length reports))
@@ -162,7 +161,7 @@ abbrev pub QuasiNormal : Type 0
 QuasiNormal =
     (t : Table) (p : Plan) → check t ≡ gives p → (reports : List Bool)
     → (m n i j : ℕ) → m < n → n ≤ length reports
-    → chosen p (state_at p reports m) ≡ some j → chosen p (state_at p reports n) ≡ some i
+    → chosen p (state_at p reports m) ≡ Some j → chosen p (state_at p reports n) ≡ Some i
     → modified_release p i ≤ modified_release p j → modified_deadline p j ≤ modified_deadline p i
 
 -- The state to which the program runs, every report answered until all have finished, is the run's first one in which all

@@ -1,10 +1,9 @@
 -- States tick by tick under any choice, and after a list of reports under the rules' own.
-use Rattle.std.specs.Prelude.{◌≡◌, Bool, true, length, get_or, set, take, replicate}
+use Rattle.std.specs.Prelude.{◌≡◌, Bool, true, length, get_or, set, take, replicate, Option, None, Some}
 use Rattle.std.proofs.Math.Path.{refl, ap}
 use Rattle.std.proofs.Common.{◌∙◌, take-suc}
 use Rattle.std.proofs.Math.Bool.{false, cond}
 use mathlib.Core.List.{List, [], ◌∷◌, ◌++◌}
-use Rattle.std.proofs.Math.Option.{Option, none, some}
 use Prim.Native.Nat.{ℕ, zero, suc, ◌+◌, ◌≤◌, ◌<◌}
 use native.Mathlib.Omega.{arith}
 use Rattle.std.proofs.Math.ListN.{length-set, length-replicate}
@@ -34,14 +33,14 @@ module _ (p : Plan) where
 
   move_good : {k : ℕ} {st : State} (silent : Bool) (o : Option ℕ) → Good k st → Good (suc k) (move p st silent o)
   unfolding advance
-  move_good silent none g =
+  move_good silent None g =
       record {
         tick_is = omega (arith, g.tick_is);
         executed_long = g.executed_long;
         marks_long = g.marks_long;
         finish_long = g.finish_long;
       }
-  move_good {k} {st} silent (some x) g =
+  move_good {k} {st} silent (Some x) g =
       record {
         tick_is = omega (arith, g.tick_is);
         executed_long = length-set st.executed x (executed st x + 1) ∙ g.executed_long;

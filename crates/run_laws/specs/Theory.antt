@@ -1,8 +1,7 @@
 -- Runs as functions of the tick, under any choice that runs a job exactly if one is pending, runs a pending job, and starts
 -- only the first pending one: what stays true from tick to tick, and what follows on ancestors, idling and ends.
-use Rattle.std.specs.Prelude.{◌≡◌, refl, ◌≢◌, true, ℕ, zero, suc, ◌+◌, ◌≤◌, ◌<◌}
+use Rattle.std.specs.Prelude.{◌≡◌, refl, ◌≢◌, true, ℕ, zero, suc, ◌+◌, ◌≤◌, ◌<◌, Option, None, Some}
 use Rattle.std.proofs.Common.{ap, arith}
-use Rattle.std.proofs.Math.Option.{Option, none, some}
 use Rattle.std.proofs.Math.Decide.{ℕ_discrete, dec_lt, dec_le}
 use Rattle.rules.specs.Rows.{sum, largest}
 use Rattle.laws.specs.Rows.{sum_grows, sum_lt, largest-at}
@@ -21,7 +20,7 @@ pub record Jobs : Type 0 where
   pub apart : (i j : ℕ) → i < count → j < count → key i ≡ key j → i ≡ j
 
 -- an idle tick is nobody's
-pub idle_not : {A : Type 0} {x : ℕ} → ◌≡◌ {A = Option ℕ} none (some x) → A
+pub idle_not : {A : Type 0} {x : ℕ} → ◌≡◌ {A = Option ℕ} None (Some x) → A
 idle_not e = let z : ◌≡◌ {A = ℕ} 0 1 = cc in absurd (omega arith)
 
 module _ (J : Jobs) where
@@ -37,13 +36,13 @@ module _ (J : Jobs) where
 
   -- A choice of the class: idle exactly if no job is pending; what runs is pending, and if it isn't started, the first pending.
   pub data Choice (t : ℕ) (e : ℕ → ℕ) : Option ℕ → Type 0 where
-    idles : ((j : ℕ) → Pending t e j → ⊥) → Choice t e none
-    runs : {x : ℕ} → Pending t e x → (e x ≡ 0 → First t e x) → Choice t e (some x)
+    idles : ((j : ℕ) → Pending t e j → ⊥) → Choice t e None
+    runs : {x : ℕ} → Pending t e x → (e x ≡ 0 → First t e x) → Choice t e (Some x)
 
   -- What a tick does to the executed ticks: it raises those of the chosen job by one.
   pub data Frame (e e' : ℕ → ℕ) : Option ℕ → Type 0 where
-    stays : ((j : ℕ) → e' j ≡ e j) → Frame e e' none
-    moves : {x : ℕ} → e' x ≡ suc (e x) → ((j : ℕ) → j ≢ x → e' j ≡ e j) → Frame e e' (some x)
+    stays : ((j : ℕ) → e' j ≡ e j) → Frame e e' None
+    moves : {x : ℕ} → e' x ≡ suc (e x) → ((j : ℕ) → j ≢ x → e' j ≡ e j) → Frame e e' (Some x)
 
   -- A run from tick 0: at each tick the executed ticks before it, and the choice.
   pub record Run : Type 0 where
@@ -116,39 +115,39 @@ module _ (J : Jobs) where
 
   module _ (R : Run) where
     -- what was chosen was pending, and the tick was its
-    pub chosen-pending : {k x : ℕ} → R.pick k ≡ some x → Pending k (R.e k) x
+    pub chosen-pending : {k x : ℕ} → R.pick k ≡ Some x → Pending k (R.e k) x
     chosen-pending {k} {x} c = go (rw c at (R.choice k))
       where
-        go : Choice k (R.e k) (some x) → Pending k (R.e k) x
+        go : Choice k (R.e k) (Some x) → Pending k (R.e k) x
         go (runs p f) = p
 
-    pub chosen-first : {k x : ℕ} → R.pick k ≡ some x → R.e k x ≡ 0 → First k (R.e k) x
+    pub chosen-first : {k x : ℕ} → R.pick k ≡ Some x → R.e k x ≡ 0 → First k (R.e k) x
     chosen-first {k} {x} c = go (rw c at (R.choice k))
       where
-        go : Choice k (R.e k) (some x) → R.e k x ≡ 0 → First k (R.e k) x
+        go : Choice k (R.e k) (Some x) → R.e k x ≡ 0 → First k (R.e k) x
         go (runs p f) = f
 
-    pub chosen_up : {k x : ℕ} → R.pick k ≡ some x → R.e (suc k) x ≡ suc (R.e k x)
+    pub chosen_up : {k x : ℕ} → R.pick k ≡ Some x → R.e (suc k) x ≡ suc (R.e k x)
     chosen_up {k} {x} c = go (rw c at (R.frame k))
       where
-        go : Frame (R.e k) (R.e (suc k)) (some x) → R.e (suc k) x ≡ suc (R.e k x)
+        go : Frame (R.e k) (R.e (suc k)) (Some x) → R.e (suc k) x ≡ suc (R.e k x)
         go (moves up same) = up
 
     -- nothing else changes
-    pub others_same : {k j : ℕ} → R.pick k ≢ some j → R.e (suc k) j ≡ R.e k j
+    pub others_same : {k j : ℕ} → R.pick k ≢ Some j → R.e (suc k) j ≡ R.e k j
     others_same {k} {j} n = go (R.pick k) refl (R.frame k)
       where
         go : (o : Option ℕ) → R.pick k ≡ o → Frame (R.e k) (R.e (suc k)) o → R.e (suc k) j ≡ R.e k j
-        go none c (stays h) = h j
-        go (some x) c (moves up same) = same j (λ q. n (rw (← q) at c))
+        go None c (stays h) = h j
+        go (Some x) c (moves up same) = same j (λ q. n (rw (← q) at c))
 
     -- whose count rose was chosen
-    pub raised-chosen : {k j : ℕ} → R.e k j < R.e (suc k) j → R.pick k ≡ some j
+    pub raised-chosen : {k j : ℕ} → R.e k j < R.e (suc k) j → R.pick k ≡ Some j
     raised-chosen {k} {j} l = go (R.pick k) refl (R.frame k)
       where
-        go : (o : Option ℕ) → R.pick k ≡ o → Frame (R.e k) (R.e (suc k)) o → R.pick k ≡ some j
-        go none c (stays h) = absurd (omega (arith, h j))
-        go (some x) c (moves up same) = elim (ℕ_discrete j x) [ yes q ↦ rw q c | no q ↦ absurd (omega (arith, same j q)) ]
+        go : (o : Option ℕ) → R.pick k ≡ o → Frame (R.e k) (R.e (suc k)) o → R.pick k ≡ Some j
+        go None c (stays h) = absurd (omega (arith, h j))
+        go (Some x) c (moves up same) = elim (ℕ_discrete j x) [ yes q ↦ rw q c | no q ↦ absurd (omega (arith, same j q)) ]
 
     pub grows_to : (k n j : ℕ) → k ≤ n → R.e k j ≤ R.e n j
     grows_to k zero j l = rw (let q : k ≡ 0 = omega arith in q) (omega arith)
@@ -172,7 +171,7 @@ module _ (J : Jobs) where
 
     -- Quasi-normality of the whole schedule (003, definition 3.3): where a tick of j comes before a tick of i, and i is
     -- released no later than j, then j comes no later in the order.
-    pub quasi_normal : (m n i j : ℕ) → m < n → R.pick m ≡ some j → R.pick n ≡ some i → J.release i ≤ J.release j
+    pub quasi_normal : (m n i j : ℕ) → m < n → R.pick m ≡ Some j → R.pick n ≡ Some i → J.release i ≤ J.release j
         → J.key j ≤ J.key i
     quasi_normal m n i j l cj ci r =
         elim (dec_le (J.key j) (J.key i)) [
@@ -187,7 +186,7 @@ module _ (J : Jobs) where
         ]
 
     -- What comes before the chosen job and is released no later has finished.
-    pub earlier_finished : (k i x : ℕ) → R.pick k ≡ some x → J.key i < J.key x → J.release i ≤ J.release x
+    pub earlier_finished : (k i x : ℕ) → R.pick k ≡ Some x → J.key i < J.key x → J.release i ≤ J.release x
         → J.cost i ≤ R.e k i
     earlier_finished k i x c b r =
         elim (dec_lt 0 (R.e k x)) [
@@ -196,10 +195,10 @@ module _ (J : Jobs) where
         ]
 
     -- An idle tick leaves no job unfinished that is released.
-    pub idle_none : (k : ℕ) → R.pick k ≡ none → (j : ℕ) → Pending k (R.e k) j → ⊥
+    pub idle_none : (k : ℕ) → R.pick k ≡ None → (j : ℕ) → Pending k (R.e k) j → ⊥
     idle_none k c = go (rw c at (R.choice k))
       where
-        go : Choice k (R.e k) none → (j : ℕ) → Pending k (R.e k) j → ⊥
+        go : Choice k (R.e k) None → (j : ℕ) → Pending k (R.e k) j → ⊥
         go (idles n) = n
 
     -- ---- ends

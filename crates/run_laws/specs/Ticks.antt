@@ -1,9 +1,8 @@
 -- What any choice of the class does to states, tick by tick, is a run of the theory with its marks.
-use Rattle.std.specs.Prelude.{◌≡◌, refl, ◌≢◌, ◌⊎◌, Bool, true, false, cond, ℕ, suc, ◌+◌, ◌<◌, set, replicate}
+use Rattle.std.specs.Prelude.{◌≡◌, refl, ◌≢◌, ◌⊎◌, Bool, true, false, cond, ℕ, suc, ◌+◌, ◌<◌, set, replicate, Option, Some}
 use Rattle.std.proofs.Math.Path.{ap}
 use Rattle.std.proofs.Common.{subst, inl, inr}
 use Rattle.std.proofs.Math.Logic.{⊎_elim}
-use Rattle.std.proofs.Math.Option.{Option, some}
 use Rattle.std.proofs.Math.Decide.{dec_lt}
 use native.Mathlib.Omega.{arith}
 use Rattle.std.proofs.Math.ListN.{get_or, get_or-eq_default}
@@ -124,7 +123,7 @@ module _ (p : Plan) (S : Sound p) where
           → Writes JS K (Badly st silent) k (executed st)
           (mark st) (λ j. get_or (cond b (set st.marks x (mark_for (ends_stale p st x silent))) st.marks) j 0)
           (finish st) (λ j. get_or (cond b (set st.finish x (st.tick + 1)) st.finish) j 0)
-          (some x)
+          (Some x)
       go (so e) =
           let l = pending_in JS h in
           ending {x = x}
@@ -135,7 +134,7 @@ module _ (p : Plan) (S : Sound p) where
           (λ j n. get_or-set_other st.finish x j (st.tick + 1) 0 n)
       go (not_so n) =
           nothing
-          (λ y (q : some x ≡ some y) e. n (let w : x ≡ y = cc in omega (arith, ap (executed st) w, ap (cost p.table) w)))
+          (λ y (q : Some x ≡ Some y) e. n (let w : x ≡ y = cc in omega (arith, ap (executed st) w, ap (cost p.table) w)))
           (λ j. refl)
           (λ j. refl)
 

@@ -1,11 +1,10 @@
 -- How long a job waits in a run of 01's rules 1 to 4: from its release to its finish, ticks given to later jobs all go to one
 -- job, while it is inside one section, in which it was before the release.
-use Rattle.std.specs.Prelude.{◌≡◌, ◌≢◌, ◌⊎◌, Bool, ◌&&◌, eqb}
+use Rattle.std.specs.Prelude.{◌≡◌, ◌≢◌, ◌⊎◌, Bool, ◌&&◌, eqb, Option, None, Some}
 use Rattle.std.proofs.Math.Path.{refl, ap}
 use Rattle.std.proofs.Common.{sym, ◌∙◌, inl, inr, arith}
 use Rattle.std.proofs.Math.Logic.{⊎_elim}
 use Rattle.std.proofs.Math.Bool.{true, false}
-use Rattle.std.proofs.Math.Option.{Option, none, some}
 use Prim.Native.Nat.{ℕ, zero, suc, ◌+◌, ◌≤◌, ◌<◌}
 use Rattle.std.proofs.Math.Decide.{ℕ_discrete, dec_lt, dec_le}
 use Rattle.rules.specs.Rows.{count}
@@ -112,8 +111,8 @@ module _ (J : Jobs) (Z : Sections) (C : Ceilings J Z) (R : Run J) (rules : (k : 
 
   -- the tick goes to a job later than j
   abbrev pub goes_after : ℕ → Option ℕ → Bool
-  goes_after j none = false
-  goes_after j (some x) = after J j x
+  goes_after j None = false
+  goes_after j (Some x) = after J j x
 
   -- job j waits in tick k
   abbrev pub waits_at : ℕ → ℕ → Bool
@@ -145,15 +144,15 @@ module _ (J : Jobs) (Z : Sections) (C : Ceilings J Z) (R : Run J) (rules : (k : 
     inside : R.e b who ≤ Z.to section
     number : waited_to j b + R.e a who ≡ R.e b who
     still : (l : ℕ) → J.key j < J.key l → l ≢ who → R.e b l ≡ R.e a l
-    all-to : (s : ℕ) → s < b → waits_at j s ≡ true → R.pick s ≡ some who
+    all-to : (s : ℕ) → s < b → waits_at j s ≡ true → R.pick s ≡ Some who
 
   abbrev Delay : ℕ → ℕ → ℕ → Type 0
   Delay j a b = Undisturbed j a b ⊎ Delayed j a b
 
   goes_says : (j : ℕ) (o : Option ℕ)
-      → Says ((x : ℕ) × (o ≡ some x) × (J.key j < J.key x)) ((x : ℕ) → o ≡ some x → J.key x ≤ J.key j) (goes_after j o)
-  goes_says j none = not_so (λ x q. idle_not q)
-  goes_says j (some x) =
+      → Says ((x : ℕ) × (o ≡ Some x) × (J.key j < J.key x)) ((x : ℕ) → o ≡ Some x → J.key x ≤ J.key j) (goes_after j o)
+  goes_says j None = not_so (λ x q. idle_not q)
+  goes_says j (Some x) =
       says_map
       (λ l. (x, refl, l))
       (λ l y q. let e : x ≡ y = cc in omega (arith, ap J.key e))
@@ -161,8 +160,8 @@ module _ (J : Jobs) (Z : Sections) (C : Ceilings J Z) (R : Run J) (rules : (k : 
 
   waits_says : (j k : ℕ)
       → Says
-      (Pending J k (R.e k) j × ((x : ℕ) × (R.pick k ≡ some x) × (J.key j < J.key x)))
-      ((Pending J k (R.e k) j → ⊥) ⊎ ((x : ℕ) → R.pick k ≡ some x → J.key x ≤ J.key j))
+      (Pending J k (R.e k) j × ((x : ℕ) × (R.pick k ≡ Some x) × (J.key j < J.key x)))
+      ((Pending J k (R.e k) j → ⊥) ⊎ ((x : ℕ) → R.pick k ≡ Some x → J.key x ≤ J.key j))
       (waits_at j k)
   waits_says j k = says_and (pend_says J k (R.e k) j) (goes_says j (R.pick k))
 
@@ -178,7 +177,7 @@ module _ (J : Jobs) (Z : Sections) (C : Ceilings J Z) (R : Run J) (rules : (k : 
   module _ (nested : Nested Z) where
     module _ (j a b : ℕ) (p : Pending J b (R.e b) j) where
       -- no later job runs
-      rests : waits_at j b ≡ false → ((l : ℕ) → J.key j < J.key l → R.pick b ≢ some l) → Delay j a b → Delay j a (suc b)
+      rests : waits_at j b ≡ false → ((l : ℕ) → J.key j < J.key l → R.pick b ≢ Some l) → Delay j a b → Delay j a (suc b)
       rests w n (inl u) =
           inl (record {
             quiet = below_suc (λ s. waits_at j s ≡ false) b u.quiet w;
@@ -195,11 +194,11 @@ module _ (J : Jobs) (Z : Sections) (C : Ceilings J Z) (R : Run J) (rules : (k : 
             inside = omega (arith, u.inside);
             number = omega (arith, u.number, no_more j b w);
             still = λ l h m. others_same J R (n l h) ∙ u.still l h m;
-            all-to = below_suc (λ s. waits_at j s ≡ true → R.pick s ≡ some u.who) b u.all-to (λ t. clash t w);
+            all-to = below_suc (λ s. waits_at j s ≡ true → R.pick s ≡ Some u.who) b u.all-to (λ t. clash t w);
           })
 
       -- a later job x runs, by rule 4
-      module _ (x : ℕ) (c : R.pick b ≡ some x) (l : J.key j < J.key x) (d : Detained J Z C b (R.e b) x) where
+      module _ (x : ℕ) (c : R.pick b ≡ Some x) (l : J.key j < J.key x) (d : Detained J Z C b (R.e b) x) where
         counted : waited_to j (suc b) ≡ suc (waited_to j b)
         counted = one_more j b (yes_of (waits_says j b) (⊎_elim (λ n. n p) (λ n. omega (arith, n x c))))
 
@@ -237,7 +236,7 @@ module _ (J : Jobs) (Z : Sections) (C : Ceilings J Z) (R : Run J) (rules : (k : 
               inside = omega (arith, h.leaves, chosen_up J R c);
               number = omega (arith, counted, count_none (waits_at j) b u.quiet, chosen_up J R c);
               still = λ i g n. same i n ∙ u.still i g;
-              all-to = below_suc (λ s. waits_at j s ≡ true → R.pick s ≡ some x) b (λ s g t. clash t (u.quiet s g)) (λ t. c);
+              all-to = below_suc (λ s. waits_at j s ≡ true → R.pick s ≡ Some x) b (λ s g t. clash t (u.quiet s g)) (λ t. c);
             }
           where
             as_before : (q : ℕ) → held Z (after J x) (R.e b) q ≡ held Z (after J x) (R.e a) q
@@ -261,7 +260,7 @@ module _ (J : Jobs) (Z : Sections) (C : Ceilings J Z) (R : Run J) (rules : (k : 
               inside = omega (arith, chosen_up J R c);
               number = omega (arith, u.number, counted, chosen_up J R c);
               still = λ i g n. same i (λ r. n (r ∙ sym q)) ∙ u.still i g n;
-              all-to = below_suc (λ s. waits_at j s ≡ true → R.pick s ≡ some u.who) b u.all-to (λ t. c ∙ ap some (sym q));
+              all-to = below_suc (λ s. waits_at j s ≡ true → R.pick s ≡ Some u.who) b u.all-to (λ t. c ∙ ap Some (sym q));
             } in
             let h = holds-one in
             elim (dec_lt (R.e b u.who) (Z.to u.section)) [
@@ -337,10 +336,10 @@ module _ (J : Jobs) (Z : Sections) (C : Ceilings J Z) (R : Run J) (rules : (k : 
       delay_step : Delay j a b → Delay j a (suc b)
       delay_step h = go (goes_says j (R.pick b)) h
         where
-          runs_later : (x : ℕ) → R.pick b ≡ some x → J.key j < J.key x → Delay j a b → Delay j a (suc b)
+          runs_later : (x : ℕ) → R.pick b ≡ Some x → J.key j < J.key x → Delay j a b → Delay j a (suc b)
           runs_later x c l = by (rule_of J Z C R rules c)
             where
-              by : ByRules J Z C b (R.e b) (some x) → Delay j a b → Delay j a (suc b)
+              by : ByRules J Z C b (R.e b) (Some x) → Delay j a b → Delay j a (suc b)
               by (resumes f s) u = absurd (omega (arith, f.leads j p (λ q. omega (arith, ap J.key q))))
               by (opens f z t) u = absurd (omega (arith, f.leads j p (λ q. omega (arith, ap J.key q))))
               by (detains d) (inl u) = inr (begins x c l d u)
@@ -352,8 +351,8 @@ module _ (J : Jobs) (Z : Sections) (C : Ceilings J Z) (R : Run J) (rules : (k : 
 
           go : {o : Bool}
               → Says
-              ((x : ℕ) × (R.pick b ≡ some x) × (J.key j < J.key x))
-              ((x : ℕ) → R.pick b ≡ some x → J.key x ≤ J.key j)
+              ((x : ℕ) × (R.pick b ≡ Some x) × (J.key j < J.key x))
+              ((x : ℕ) → R.pick b ≡ Some x → J.key x ≤ J.key j)
               o
               → Delay j a b → Delay j a (suc b)
           go (so w) u = runs_later w.0 w.1 w.2 u
@@ -386,7 +385,7 @@ module _ (J : Jobs) (Z : Sections) (C : Ceilings J Z) (R : Run J) (rules : (k : 
       never : waited_to j b ≡ 0 → ((s : ℕ) → s < b → waits_at j s ≡ false) → Waited j b
       by : (section : ℕ) → j < J.count → J.key j < J.key (Z.owner section)
           → waited_to j b + Z.from section < Z.to section
-          → ((s : ℕ) → s < b → waits_at j s ≡ true → R.pick s ≡ some (Z.owner section)) → Waited j b
+          → ((s : ℕ) → s < b → waits_at j s ≡ true → R.pick s ≡ Some (Z.owner section)) → Waited j b
 
     told : {j a b : ℕ} → j < J.count → Delay j a b → Waited j b
     told {j} {a} {b} l (inl u) = never (count_none (waits_at j) b u.quiet) u.quiet
@@ -406,7 +405,7 @@ module _ (J : Jobs) (Z : Sections) (C : Ceilings J Z) (R : Run J) (rules : (k : 
         skip w (by s i l n t) =
             by s i l
             (omega (arith, no_more j b w))
-            (below_suc (λ i. waits_at j i ≡ true → R.pick i ≡ some (Z.owner s)) b t (λ h. clash h w))
+            (below_suc (λ i. waits_at j i ≡ true → R.pick i ≡ Some (Z.owner s)) b t (λ h. clash h w))
 
         go : {c : Bool} → Says (Pending J b (R.e b) j) (Pending J b (R.e b) j → ⊥) c → Waited j b → Waited j (suc b)
         go (so p) u = told (pending_in J p) (delay_step j (J.release j) b p (delay j b p.released p.unfinished))

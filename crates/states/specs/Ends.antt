@@ -1,42 +1,10 @@
--- Laws for lists of zeros, the largest release, lateness, and the bounds of a run.
-use Rattle.std.specs.Prelude.{◌≡◌, refl, Bool, true, false, cond, List, [], ◌∷◌, ◌++◌, ℕ, zero, suc, ◌+◌, ◌*◌, ◌/◌, ◌-◌, ◌≤◌, ◌<◌, max, ltb, pos, negsuc, ◌-ℤ◌, length, get_or, set, take, drop, replicate}
-use Rattle.std.proofs.Common.{sym, ◌∙◌, ap, add-one, arith, length-set, take-append-drop, take-suc-set, drop-set-lt, drop-drop, le-ltb}
+-- Laws for the largest release, lateness, and the bounds of a run.
+use Rattle.std.specs.Prelude.{◌≡◌, Bool, true, false, cond, ℕ, suc, ◌+◌, ◌*◌, ◌-◌, ◌≤◌, ◌<◌, max, ltb, pos, negsuc, length}
+use Rattle.std.proofs.Common.{add-one, arith}
 use Rattle.std.proofs.Math.IntN.{sub_ℕ}
 use Rattle.std.specs.Int.Signed.{mag}
 use Rattle.rules.specs.Rows.{largest}
-
--- ---- a front of zeros
-
-zeros_more : (n : ℕ) → ◌++◌ {A = ℕ} (replicate n 0) (0 ∷ []) ≡ replicate (suc n) 0
-zeros_more zero = refl
-zeros_more (suc n) = ap (λ l. 0 ∷ l) (zeros_more n)
-
--- the first i places of the list are 0, and the rest is as it was
-pub record Cleared (before : List ℕ) (i : ℕ) (list : List ℕ) : Type 0 where
-  pub same : length list ≡ length before
-  pub front : take i list ≡ replicate i 0
-  pub rest : drop i list ≡ drop i before
-
-pub clear_start : (l : List ℕ) → Cleared l 0 l
-clear_start l = record { same = refl; front = refl; rest = refl }
-
--- one element more off both
-drop_more : (l m : List ℕ) (i : ℕ) → drop i l ≡ drop i m → drop (suc i) l ≡ drop (suc i) m
-drop_more l m i e =
-    let n : i + 1 ≡ suc i = omega arith in
-    rw n at (sym (drop-drop 1 i l) ∙ ap (drop 1) e ∙ drop-drop 1 i m)
-
-pub clear_more : {l m : List ℕ} {i : ℕ} → Cleared l i m → i < length m → Cleared l (i + 1) (set m i 0)
-clear_more {l} {m} {i} h k =
-    record {
-      same = rw length-set h.same;
-      front = rw (add-one i, take-suc-set m i 0 k, h.front) (zeros_more i);
-      rest =
-          rw (add-one i, drop-set-lt (suc i) m i 0 (omega arith)) (drop_more m l i h.rest);
-    }
-
-pub clear_end : {l m : List ℕ} {i : ℕ} → Cleared l i m → m ≡ replicate i 0 ++ drop i l
-clear_end {l} {m} {i} h = sym (take-append-drop i m) ∙ rw (h.front, h.rest)
+use Rattle.rules.specs.Table.{Plan, job_count, cost, modified_release}
 
 -- ---- the largest
 
@@ -45,10 +13,6 @@ unfolding largest
 largest_more f b n = rw add-one
 
 -- ---- signed differences
-
-pub minus : (a b : ℕ) → pos a -ℤ pos b ≡ sub_ℕ a b
-minus a zero = rw (le-ltb a 0 (omega arith)) (ap pos (omega arith))
-minus a (suc b) = refl
 
 pub difference_small : (m a b : ℕ) → a < m → b < m → mag (sub_ℕ a b) < m
 difference_small m a b h g = go (ltb a b)
@@ -60,8 +24,8 @@ difference_small m a b h g = go (ltb a b)
 -- ---- bounds of a run
 
 -- jobs are few, and their releases and costs within bounds
-pub record Bounded (jobs times : List ℕ) : Type 0 where
-  pub few : length jobs / 3 ≤ 64
-  pub pairs : 2 * (length jobs / 3) ≤ length times
-  pub releases : (j : ℕ) → j < length jobs / 3 → get_or times (2 * j) 0 ≤ 1000000
-  pub costs : (j : ℕ) → j < length jobs / 3 → get_or jobs (3 * j + 1) 0 ≤ 100000
+pub record Bounded (p : Plan) : Type 0 where
+  pub few : job_count p.table ≤ 64
+  pub pairs : 2 * job_count p.table ≤ length p.times
+  pub releases : (j : ℕ) → j < job_count p.table → modified_release p j ≤ 1000000
+  pub costs : (j : ℕ) → j < job_count p.table → cost p.table j ≤ 100000

@@ -1,4 +1,3 @@
--- Plans of lists, the order by relative deadlines, and the sums.
-pub mod Lists
+-- The order by relative deadlines, and the sums.
 pub mod Order
 pub mod Sums

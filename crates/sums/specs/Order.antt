@@ -1,5 +1,5 @@
--- The order by relative deadline, ties by number: laws for the code, and that it is strict and total.
-use Rattle.std.specs.Prelude.{◌≡◌, ◌≢◌, ◌⊎◌, true, false, ℕ, ◌≤◌, ◌<◌, ltb, eqb}
+-- The order by relative deadline, ties by number: what it says, and that it is strict and total.
+use Rattle.std.specs.Prelude.{◌≡◌, ◌≢◌, ◌⊎◌, ℕ, ◌≤◌, ◌<◌}
 use Rattle.std.proofs.Common.{inl, inr, ⊎_elim, arith}
 use Rattle.rules.specs.Table.{Plan, span}
 use Rattle.rules.specs.Density.{sorts_before}
@@ -7,21 +7,6 @@ use Rattle.laws.specs.Tests.{Says, lt_says, eq_says, says_map, says_and, says_or
 use Rattle.laws.specs.First.{Order}
 
 module _ (p : Plan) where
-  -- ---- laws for the code: one for each way out
-
-  module _ (i j : ℕ) {a b : ℕ} (x : a ≡ span p i) (y : b ≡ span p j) where
-    pub sorts_shorter : ltb a b ≡ true → true ≡ sorts_before p i j
-    unfolding sorts_before
-    sorts_shorter e = rw (← x, ← y, e)
-
-    pub sorts_tie : ltb a b ≡ false → eqb a b ≡ true → ltb i j ≡ sorts_before p i j
-    unfolding sorts_before
-    sorts_tie e q = rw (← x, ← y, e, q)
-
-    pub sorts_longer : ltb a b ≡ false → eqb a b ≡ false → false ≡ sorts_before p i j
-    unfolding sorts_before
-    sorts_longer e q = rw (← x, ← y, e, q)
-
   -- ---- what it says
 
   -- i comes before j: by the shorter span, then by the lower number

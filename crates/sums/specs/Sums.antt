@@ -1,42 +1,52 @@
 -- The sums of the density test as the code makes them: the shares and the ceilings once, in arrays; then for each job the sum
 -- of the shares up to its place, and b by one pass over the sections.
-use Rattle.std.specs.Prelude.{◌≡◌, Bool, true, false, cond, not, ◌&&◌, List, [], ℕ, ◌+◌, ◌*◌, ◌/◌, ◌≤◌, ◌<◌, min, max, length, get_or, set, replicate, ltb, leb, eqb}
+use Rattle.std.specs.Prelude.{◌≡◌, Bool, true, false, cond, not, ◌&&◌, List, ℕ, ◌+◌, ◌*◌, ◌/◌, ◌≤◌, ◌<◌, min, max, length, get_or, set, replicate, ltb, leb, eqb, Option}
 use Rattle.std.proofs.Math.Path.{refl}
-use Rattle.std.proofs.Common.{sym, ◌∙◌, mul-le-mul, div-le_self, le_trans, add-one, arith, length-set, get_or-set_same, get_or-set_other, below_none, below_more, eq-eqb, ne_eqb, le-leb, ltb-true, ltb-false}
-use Rattle.std.proofs.Math.Option.{Option, none, some}
+use Rattle.std.proofs.Common.{sym, ◌∙◌, mul-le-mul, div-le_self, le_trans, add-one, arith, length-set, get_or-set_same, get_or-set_other, below_none, below_more, eq-eqb, ne_eqb, le-leb, lt-ltb, le-ltb}
 use Rattle.std.proofs.Math.Decide.{ℕ_discrete}
 use Rattle.std.proofs.lemmas.List.{get_or-replicate}
 use Rattle.std.proofs.lemmas.Bool.{lt-leb}
 use Rattle.rules.specs.Rows.{sum, smallest, largest}
-use Rattle.rules.specs.Table.{Plan, resources, most_jobs, most_cost, latest, cost, section_count, owner, resource, from, to, ticks_of, span}
-use Rattle.rules.specs.Tick.{tightest, span_of, ceiling}
+use Rattle.rules.specs.Table.{Plan, resources, most_jobs, most_cost, latest, job_count, cost, section_count, owner, resource, from, to, ticks_of, span}
+use Rattle.rules.specs.Tick.{ceiling}
 use Rattle.rules.specs.Density.{sorts_before, ceiling_within, blocking, fails, most_multiple}
 use Rattle.laws.specs.Tests.{le_says, eq_says, yes_says, no_of, says_agree}
-use Rattle.laws.specs.Rows.{sum_ext, smallest_more, smallest-at, smallest_least, largest_ext}
+use Rattle.laws.specs.Rows.{sum_ext, smallest_more, smallest-at, smallest_least}
 use Rattle.laws.specs.Clears.{SectionOn, CeilingOf, no_section, smallest-span, ceiling_of}
-use Rattle.rules.specs.Lists.{plan}
-use Rattle.sums.specs.Lists.{of_times, of_jobs, of_sections, of_both, SpansIn}
 
 -- ---- what the sums are made from, within its bounds
 
+-- jobs are few, and each has its times
+pub record Timed (p : Plan) : Type 0 where
+  pub few : job_count p.table ≤ most_jobs
+  pub pairs : 2 * job_count p.table ≤ length p.times
+
+-- every job has its times, and a relative deadline above 0
+pub record SpansIn (p : Plan) : Type 0 where
+  pub pairs : 2 * job_count p.table ≤ length p.times
+  pub above : (j : ℕ) → j < job_count p.table → 0 < span p j
+
 -- jobs are few, and spans and costs within their bounds
-pub record JobsIn (jobs times : List ℕ) : Type 0 where
-  pub few : length jobs / 3 ≤ most_jobs
-  pub spans : SpansIn times (length jobs / 3)
-  pub most : (j : ℕ) → j < length jobs / 3 → span (of_times times) j ≤ latest
-  pub costs : (j : ℕ) → j < length jobs / 3 → cost (of_jobs jobs times).table j ≤ most_cost
+pub record JobsIn (p : Plan) : Type 0 where
+  pub few : job_count p.table ≤ most_jobs
+  pub spans : SpansIn p
+  pub most : (j : ℕ) → j < job_count p.table → span p j ≤ latest
+  pub costs : (j : ℕ) → j < job_count p.table → cost p.table j ≤ most_cost
+
+pub timed : (p : Plan) → JobsIn p → Timed p
+timed p J = record { few = J.few; pairs = J.spans.pairs }
 
 -- section s names a job and a resource, and is no longer than a cost
-pub record SectionAt (sections times : List ℕ) (s : ℕ) : Type 0 where
-  pub listed : 4 * s + 3 < length sections
-  pub owner_in : 2 * owner (of_sections sections times).table s + 1 < length times
-  pub resource_in : resource (of_sections sections times).table s < resources
-  pub begins : from (of_sections sections times).table s ≤ to (of_sections sections times).table s
-  pub short : to (of_sections sections times).table s ≤ most_cost
+pub record SectionAt (p : Plan) (s : ℕ) : Type 0 where
+  pub listed : s < section_count p.table
+  pub owner_in : 2 * owner p.table s + 1 < length p.times
+  pub resource_in : resource p.table s < resources
+  pub begins : from p.table s ≤ to p.table s
+  pub short : to p.table s ≤ most_cost
 
 -- so it is of every section
-abbrev pub SectionsIn : List ℕ → List ℕ → Type 0
-SectionsIn sections times = (s : ℕ) → s < length sections / 4 → SectionAt sections times s
+abbrev pub SectionsIn : Plan → Type 0
+SectionsIn p = (s : ℕ) → s < section_count p.table → SectionAt p s
 
 -- ---- shares
 
@@ -84,11 +94,9 @@ abbrev pub adds : Plan → ℕ → ℕ → ℕ → ℕ
 adds p m j i = up_to p j (λ i. m / span p i * cost p.table i) i
 
 -- the sum of the shares is that of the rules
-pub shares_sum : (jobs times : List ℕ) (m j n : ℕ) (shares : List ℕ) (total : ℕ) → Shares (of_jobs jobs times) m n shares
-    → total ≡ sum (up_to (of_times times) j (λ i. get_or shares i 0)) n → total ≡ sum (adds (of_jobs jobs times) m j) n
-unfolding sorts_before
-shares_sum jobs times m j n shares total S e =
-    e ∙ sum_ext (up_to (of_times times) j (λ i. get_or shares i 0)) (adds (of_jobs jobs times) m j) n (λ i l. rw (S.at i l))
+pub shares_sum : (p : Plan) (m j n : ℕ) (shares : List ℕ) (total : ℕ) → Shares p m n shares
+    → total ≡ sum (up_to p j (λ i. get_or shares i 0)) n → total ≡ sum (adds p m j) n
+shares_sum p m j n shares total S e = e ∙ sum_ext (up_to p j (λ i. get_or shares i 0)) (adds p m j) n (λ i l. rw (S.at i l))
 
 -- ---- ceilings
 
@@ -172,19 +180,19 @@ module _ (p : Plan) (d s b t : ℕ) (z : t ≡ ticks_of p.table s) where
       go false = omega arith
 
   module _ (x : ℕ) (y : x ≡ span p (owner p.table s)) where
-    pub longer_lower : ltb d x ≡ false → b ≡ max b (ticks_for p d s)
-    longer_lower f = rw (← y, f) (omega arith)
+    pub longer_lower : x ≤ d → b ≡ max b (ticks_for p d s)
+    longer_lower f = rw (← y, le-ltb d x f) (omega arith)
 
     module _ (ceilings : List ℕ) (C : Ceilings p (section_count p.table) ceilings) (h : d ≤ latest) (q : ℕ) (e : q ≡ resource p.table s)
-        (l : q < resources) (f : ltb d x ≡ true) where
+        (l : q < resources) (f : d < x) where
       counted : (c : Bool) → leb (get_or ceilings q 0) d ≡ c → counts p d s ≡ c
-      counted c g = rw (← y, f, ← e, ← ceiling-within p d q h, ← C.at q l) g
+      counted c g = rw (← y, lt-ltb d x f, ← e, ← ceiling-within p d q h, ← C.at q l) g
 
-      pub longer_clear : ltb d (get_or ceilings q 0) ≡ true → b ≡ max b (ticks_for p d s)
-      longer_clear g = rw (counted false (lt-leb (get_or ceilings q 0) d (ltb-true d (get_or ceilings q 0) g))) (omega arith)
+      pub longer_clear : d < get_or ceilings q 0 → b ≡ max b (ticks_for p d s)
+      longer_clear g = rw (counted false (lt-leb (get_or ceilings q 0) d g)) (omega arith)
 
-      pub longer_counts : ltb d (get_or ceilings q 0) ≡ false → b < t → t ≡ max b (ticks_for p d s)
-      longer_counts g k = rw (counted true (le-leb (get_or ceilings q 0) d (ltb-false d (get_or ceilings q 0) g)), ← z) (omega arith)
+      pub longer_counts : get_or ceilings q 0 ≤ d → b < t → t ≡ max b (ticks_for p d s)
+      longer_counts g k = rw (counted true (le-leb (get_or ceilings q 0) d g), ← z) (omega arith)
 
 pub blocking_more : (p : Plan) (d n b r : ℕ) → b ≡ blocking_at p d n → r ≡ max b (ticks_for p d n) → r ≡ blocking_at p d (n + 1)
 unfolding largest
@@ -197,40 +205,7 @@ blocking_more p d n b r e f = rw (f, add-one n, e) (go (counts p d n))
 
 -- ---- the whole sum
 
--- ceilings and b read only sections and times
-module _ (jobs arcs sections times : List ℕ) where
-  same_ceiling : (q : ℕ) → ceiling (of_sections sections times) q ≡ ceiling (plan jobs arcs sections times) q
-  unfolding ceiling tightest
-  same_ceiling q = go (tightest (of_sections sections times) q)
-    where
-      go : (o : Option ℕ) → span_of (of_sections sections times) o ≡ span_of (plan jobs arcs sections times) o
-      go none = refl
-      go (some s) = refl
-
-  same_blocking : (j : ℕ)
-      → blocking_at (of_sections sections times) (span (of_times times) j) (length sections / 4) ≡ blocking (plan jobs arcs sections times) j
-  unfolding blocking
-  same_blocking j =
-      largest_ext
-      (counts (of_sections sections times) (span (of_times times) j))
-      (counts (plan jobs arcs sections times) (span (of_times times) j))
-      (ticks_of (of_sections sections times).table)
-      (ticks_of (of_sections sections times).table)
-      0
-      (length sections / 4)
-      (λ s l. rw (same_ceiling (resource (of_sections sections times).table s)))
-      (λ s l e. refl)
-
-  pub fails_are : (m j d b total share x : ℕ) → d ≡ span (of_times times) j → b ≡ blocking_at (of_sections sections times) d (length sections / 4)
-      → total ≡ sum (adds (of_jobs jobs times) m j) (length jobs / 3) → share ≡ m / d * b → x ≡ m
-      → ltb x (total + share) ≡ fails (plan jobs arcs sections times) m j
-  unfolding fails
-  fails_are m j d b total share x e f g h i = rw (i, g, h, f, e, same_blocking j)
-
-  pub same_fails : (m j : ℕ) → fails (of_both jobs sections times) m j ≡ fails (plan jobs arcs sections times) m j
-  same_fails m j =
-      let d = span (of_times times) j in
-      let b = blocking_at (of_sections sections times) d (length sections / 4) in
-      let t = sum (adds (of_jobs jobs times) m j) (length jobs / 3) in
-      sym (Rattle.sums.specs.Sums.fails_are jobs [] sections times m j d b t (m / d * b) m refl refl refl refl refl)
-      ∙ fails_are m j d b t (m / d * b) m refl refl refl refl refl
+pub fails_are : (p : Plan) (m j d b total share x : ℕ) → d ≡ span p j → b ≡ blocking_at p d (section_count p.table)
+    → total ≡ sum (adds p m j) (job_count p.table) → share ≡ m / d * b → x ≡ m → ltb x (total + share) ≡ fails p m j
+unfolding fails blocking
+fails_are p m j d b total share x e f g h i = rw (i, g, h, f, e)

@@ -10,8 +10,9 @@ use lib.Seq.{drop-drop, take-suc-set}
 use Rattle.rules.specs.Refusals.{Fault, fault, Outcome, refused, gives}
 use Rattle.rules.specs.Text.{Part, key, Front, line_value, Taken, prepend, read_values, read_part}
 use Rattle.laws.specs.Text.{taken, values_more, values_none, on_line, part_read, on_count}
+use Rattle.std.specs.Prelude.{Result, Ok, Err}
+use Rattle.lines.specs.declared.leaves.Stopped.{Stopped}
 use Rattle.lines.specs.declared.leaves.Found.{Found}
-use Rattle.lines.specs.declared.leaves.Found.TheVariants.{Value, Stopped}
 use Rattle.lines.specs.Leaves.{Took}
 use Rattle.lines.specs.Pieces.{rest_is}
 
@@ -33,7 +34,7 @@ before_more [] v o = refl
 before_more (w ∷ vs) v o = ap (prepend w) (before_more vs v o)
 
 -- a line is read from the rest of the text
-pub line_at : (t : List ℕ) (at k : ℕ) {r s : Found}
+pub line_at : (t : List ℕ) (at k : ℕ) {r s : Result (Found ℕ) Stopped}
     → Took (line_value (key k) (take (length t - at) (drop at t))) (take (length t - at) (drop at t)) r → r ≡ s
     → Took (line_value (key k) (drop at t)) (drop at t) s
 line_at t at k d e = rw (rest_is at t, e) at d
@@ -68,42 +69,40 @@ module _ {b : Part} {n : ℕ} {t : List ℕ} {from first : ℕ} {out : List ℕ}
         let m : n - i ≡ suc (n - (i + 1)) = omega arith in
         w.left ∙ rw (m, values_more, ← q, e)
 
-    module _ {k e : ℕ} (q : k ≡ b.head + 1 + i % b.width) where
-      pub stopped : Took (line_value (key k) (drop at t)) (drop at t) (Stopped e)
+    module _ {k : ℕ} (q : k ≡ b.head + 1 + i % b.width) where
+      pub stopped : {s : Stopped} → Took (line_value (key k) (drop at t)) (drop at t) (Err s)
           → read_values b n 0 first (drop from t) ≡ refused (fault 1 (first + i))
       stopped d = step q d.says ∙ before-refused (take i out) (fault 1 (first + i))
 
-      pub walked : {v : ℕ} → Took (line_value (key k) (drop at t)) (drop at t) (Value v e)
-          → Walking b n t from first (set out i v) (i + 1) (at + e)
-      walked {v} d =
+      pub walked : {f : Found ℕ} → Took (line_value (key k) (drop at t)) (drop at t) (Ok f)
+          → Walking b n t from first (set out i f.value) (i + 1) (at + f.end)
+      walked {f} d =
           let a : first + i + 1 ≡ first + (i + 1) = omega arith in
-          let s : take (i + 1) (set out i v) ≡ take i out ++ (v ∷ []) =
-          ap (λ (j : ℕ). take j (set out i v)) (add-one i) ∙ take-suc-set out i v (omega (arith, w.room)) in
+          let s : take (i + 1) (set out i f.value) ≡ take i out ++ (f.value ∷ []) =
+          ap (λ (j : ℕ). take j (set out i f.value)) (add-one i) ∙ take-suc-set out i f.value (omega (arith, w.room)) in
           record {
             few = omega arith;
             room = rw length-set w.room;
             within = omega (arith, w.within, d.within, length-drop at t);
             left = step q d.says
-                ∙ rw (drop-drop e at t, a, s)
-                (before_more (take i out) v (read_values b (n - (i + 1)) (i + 1) (first + (i + 1)) (drop (at + e) t)));
+                ∙ rw (drop-drop f.end at t, a, s)
+                (before_more (take i out) f.value (read_values b (n - (i + 1)) (i + 1) (first + (i + 1)) (drop (at + f.end) t)));
           }
 
 -- ---- a part, by what its first line says
 
 module _ (b : Part) {k : ℕ} (q : k ≡ b.head) (t : List ℕ) (from at : ℕ) where
-  pub part_stops : {e : ℕ} → Took (line_value (key k) (drop from t)) (drop from t) (Stopped e)
+  pub part_stops : {s : Stopped} → Took (line_value (key k) (drop from t)) (drop from t) (Err s)
       → read_part b at (drop from t) ≡ refused (fault 1 at)
   part_stops d = part_read b at (drop from t) ∙ rw (rw q at d.says)
 
-  module _ {n e : ℕ} (d : Took (line_value (key k) (drop from t)) (drop from t) (Value n e)) where
-    pub count-within : from ≤ length t → from + e ≤ length t
-    count-within h = omega (arith, d.within, length-drop from t)
+  module _ {n : Found ℕ} (d : Took (line_value (key k) (drop from t)) (drop from t) (Ok n)) where
+    part_counts : read_part b at (drop from t) ≡ on_count b at n.value (drop (from + n.end) t)
+    part_counts = part_read b at (drop from t) ∙ rw (rw q at d.says) (ap (on_count b at n.value) (drop-drop n.end from t))
 
-    pub part_counts : read_part b at (drop from t) ≡ on_count b at n (drop (from + e) t)
-    part_counts = part_read b at (drop from t) ∙ rw (rw q at d.says) (ap (on_count b at n) (drop-drop e from t))
-
-    pub part_wrong : b.right n ≡ false → read_part b at (drop from t) ≡ refused (fault b.refusal at)
+    pub part_wrong : b.right n.value ≡ false → read_part b at (drop from t) ≡ refused (fault b.refusal at)
     part_wrong r = part_counts ∙ rw r
 
-    pub part_rows : b.right n ≡ true → read_part b at (drop from t) ≡ read_values b (n * b.width) 0 (at + 1) (drop (from + e) t)
+    pub part_rows : b.right n.value ≡ true
+        → read_part b at (drop from t) ≡ read_values b (n.value * b.width) 0 (at + 1) (drop (from + n.end) t)
     part_rows r = part_counts ∙ rw r

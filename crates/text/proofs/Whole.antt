@@ -10,12 +10,13 @@ use Rattle.rules.specs.Text.{job_part, arc_part, section_part, read_part, read}
 use Rattle.laws.specs.Text.{read_parts, part_is}
 use Rattle.parts.specs.declared.Part.{Part}
 use Rattle.parts.specs.Parts.{part_of, sound}
+use Rattle.text.specs.declared.reader.Rows.{Rows}
 use Rattle.text.specs.Passes.{Gives, Fronts}
 use Rattle.parts.specs.Rows.{few_values}
 
 -- the next part starts soon enough
-pub next_line : (p : Part) (first : ℕ) (u : List ℕ) {t out : List ℕ} {count at line : ℕ}
-    → Gives (part_of p) t (read_part (part_of p) first u) out count at line → line ≤ first + 513
+pub next_line : (p : Part) (first : ℕ) (u : List ℕ) {t out : List ℕ} {r : Rows}
+    → Gives (part_of p) t (read_part (part_of p) first u) out r → r.line ≤ first + 513
 next_line p first u g =
     let f = part_is (part_of p) (sound p) first u _ g.given in
     omega (arith, f.next, few_values p _ f.counted)
@@ -24,20 +25,20 @@ module _ (t : List ℕ) where
   pub jobs_refused : {f : Fault} → read_part job_part 1 t ≡ refused f → read t ≡ refused f
   jobs_refused e = read_parts t ∙ rw e
 
-  module _ {jobs : List ℕ} {j at line : ℕ} (J : Gives job_part t (read_part job_part 1 t) jobs j at line) where
-    pub arcs_refused : {f : Fault} → read_part arc_part line (drop at t) ≡ refused f → read t ≡ refused f
+  module _ {jobs : List ℕ} {j : Rows} (J : Gives job_part t (read_part job_part 1 t) jobs j) where
+    pub arcs_refused : {f : Fault} → read_part arc_part j.line (drop j.at t) ≡ refused f → read t ≡ refused f
     arcs_refused e = read_parts t ∙ rw (J.given, e)
 
-    module _ {arcs : List ℕ} {a at₂ line₂ : ℕ} (A : Gives arc_part t (read_part arc_part line (drop at t)) arcs a at₂ line₂) where
-      pub sections_refused : {f : Fault} → read_part section_part line₂ (drop at₂ t) ≡ refused f → read t ≡ refused f
+    module _ {arcs : List ℕ} {a : Rows} (A : Gives arc_part t (read_part arc_part j.line (drop j.at t)) arcs a) where
+      pub sections_refused : {f : Fault} → read_part section_part a.line (drop a.at t) ≡ refused f → read t ≡ refused f
       sections_refused e = read_parts t ∙ rw (J.given, A.given, e)
 
-      module _ {sections : List ℕ} {s at₃ line₃ : ℕ} (S : Gives section_part t (read_part section_part line₂ (drop at₂ t)) sections s at₃ line₃) where
-        pub left_over : at₃ < length t → read t ≡ refused (fault 1 line₃)
-        left_over h = read_parts t ∙ rw (J.given, A.given, S.given, drop-cons t at₃ 0 h)
+      module _ {sections : List ℕ} {s : Rows} (S : Gives section_part t (read_part section_part a.line (drop a.at t)) sections s) where
+        pub left_over : s.at < length t → read t ≡ refused (fault 1 s.line)
+        left_over h = read_parts t ∙ rw (J.given, A.given, S.given, drop-cons t s.at 0 h)
 
         -- the table that the text stands for
-        pub whole : length t ≤ at₃ → Fronts t jobs arcs sections j a s
+        pub whole : length t ≤ s.at → Fronts t jobs arcs sections (record { jobs = j.count; arcs = a.count; sections = s.count })
         whole h =
             record {
               given = read_parts t ∙ rw (J.given, A.given, S.given, drop_of_length-le t h);

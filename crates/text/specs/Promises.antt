@@ -1,14 +1,12 @@
 -- What `read` and `write` promise for every input: the answer, and what the lent lists hold afterwards.
-use Rattle.std.specs.Prelude.{◌≡◌, List, [], ◌∷◌, ◌++◌, ℕ, length, drop}
-use Rattle.std.proofs.Math.Option.{Option}
+use Rattle.std.specs.Prelude.{◌≡◌, List, [], ◌∷◌, ◌++◌, ℕ, length, drop, Option, Result}
 use Rattle.rules.specs.Table.{Table, job_count, arc_count, section_count}
-use Rattle.rules.specs.Refusals.{Fault, fault_of, Outcome, refused, gives, and_then, first_of, unless, count_faults, room}
+use Rattle.rules.specs.Refusals.{Fault, Outcome, refused, gives, and_then, first_of, unless, count_faults, room}
+use Rattle.rules.specs.declared.Refusal.{Refusal}
 use Rattle.rules.specs.Text as rules
 use Rattle.rules.specs.Text.{text_of}
-use Rattle.text.specs.declared.Reading.{Reading}
-use Rattle.text.specs.declared.Reading.TheVariants.{Refused, Counts}
-use Rattle.text.specs.declared.Writing.{Writing}
-use Rattle.text.specs.declared.Writing.TheVariants.{Bytes}
+use Rattle.laws.specs.Answers.{said}
+use Rattle.text.specs.declared.Counts.{Counts}
 
 -- "A refusal writes nothing"; "success writes the needed front of each lent list; the rest keeps its content".
 abbrev pub afterwards : {A : Type 0} → Outcome A → (A → List ℕ) → List ℕ → List ℕ
@@ -30,28 +28,17 @@ room_fault t jobs arcs sections =
 unfoldable pub read_into : List ℕ → List ℕ → List ℕ → List ℕ → Outcome Table
 read_into text jobs arcs sections = and_then (rules.read text) (λ t. unless (room_fault t jobs arcs sections) t)
 
--- how many jobs, arcs and sections
-pub record Rows : Type 0 where
-  pub jobs : ℕ
-  pub arcs : ℕ
-  pub sections : ℕ
-
--- those of a table
-abbrev pub rows_of : Table → Rows
-rows_of t = record { jobs = job_count t; arcs = arc_count t; sections = section_count t }
+-- how many jobs, arcs and sections a table has
+abbrev pub counts_of : Table → Counts
+counts_of t = record { jobs = job_count t; arcs = arc_count t; sections = section_count t }
 
 -- the answer tells the counts, and the lists hold the table
-abbrev pub counted : Outcome Table → Outcome Rows
-counted o = and_then o (λ t. gives (rows_of t))
-
--- an answer as 01 has it: number and place, or the three counts
-abbrev pub reading_says : Reading → Outcome Rows
-reading_says (Refused r) = refused (fault_of r)
-reading_says (Counts j a s) = gives record { jobs = j; arcs = a; sections = s }
+abbrev pub counted : Outcome Table → Outcome Counts
+counted o = and_then o (λ t. gives (counts_of t))
 
 -- The text, the three lists as they are lent, as they are left, and the answer.
-pub record Reads (text jobs arcs sections jobs' arcs' sections' : List ℕ) (r : Reading) : Type 0 where
-  pub answer : reading_says r ≡ counted (read_into text jobs arcs sections)
+pub record Reads (text jobs arcs sections jobs' arcs' sections' : List ℕ) (r : Result Counts Refusal) : Type 0 where
+  pub answer : said r ≡ counted (read_into text jobs arcs sections)
   pub jobs_left : jobs' ≡ afterwards (read_into text jobs arcs sections) (λ t. t.jobs) jobs
   pub arcs_left : arcs' ≡ afterwards (read_into text jobs arcs sections) (λ t. t.arcs) arcs
   pub sections_left : sections' ≡ afterwards (read_into text jobs arcs sections) (λ t. t.sections) sections
@@ -63,13 +50,7 @@ unfoldable pub write_into : Table → List ℕ → Outcome (List ℕ)
 write_into t out =
     and_then (unless (first_of (count_faults t)) (text_of t)) (λ text. unless (room (length text) (length out)) text)
 
--- an answer as 01 has it: number and place, or how many bytes
-abbrev pub writing_says : Writing → Outcome ℕ
-writing_says (Writing.Refused r) = refused (fault_of r)
-writing_says (Bytes n) = gives n
-
--- The table's three lists, the bytes as they are lent, as they are left, and the answer.
-pub record Writes (jobs arcs sections out out' : List ℕ) (r : Writing) : Type 0 where
-  pub answer : writing_says r
-      ≡ and_then (write_into (record { jobs = jobs; arcs = arcs; sections = sections }) out) (λ text. gives (length text))
-  pub out_left : out' ≡ afterwards (write_into (record { jobs = jobs; arcs = arcs; sections = sections }) out) (λ text. text) out
+-- The table, the bytes as they are lent, as they are left, and the answer: how many are written.
+pub record Writes (t : Table) (out out' : List ℕ) (r : Result ℕ Refusal) : Type 0 where
+  pub answer : said r ≡ and_then (write_into t out) (λ text. gives (length text))
+  pub out_left : out' ≡ afterwards (write_into t out) (λ text. text) out

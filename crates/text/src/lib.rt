@@ -1,75 +1,79 @@
 #![tactic(auto)]
 // A table's text: read into three lent lists, and written into lent bytes.
+ghost use Rattle.std.specs.Prelude.{◌≡◌, length};
+ghost use Rattle.parts.specs.Parts.{part_of};
+ghost use Rattle.text.specs.Passes.{roomy, Judged};
 ghost use Rattle.text.specs.Promises.{Reads, Writes};
 
 use parts::Part;
 use rules::Refusal;
+use rules::table::Table;
 
 mod reader;
 
-// What `read` answers: why the text is refused, or how many jobs, arcs and sections it has.
+// How many jobs, arcs and sections a table has.
 #[derive(Clone, Copy)]
-pub enum Reading {
-    Refused(Refusal),
-    Counts { jobs: u32, arcs: u32, sections: u32 },
+pub struct Counts {
+    pub jobs: u32,
+    pub arcs: u32,
+    pub sections: u32,
 }
 
-// What `write` answers: why nothing is written, or how many bytes are.
-#[derive(Clone, Copy)]
-pub enum Writing {
-    Refused(Refusal),
-    Bytes(usize),
+// Whether lists of these lengths have room for so many rows.
+fn have_room(counts: Counts, jobs: usize, arcs: usize, sections: usize) -> bool
+    ensures { result ≡ roomy counts jobs arcs sections }
+{
+    Part::Jobs.has_room(counts.jobs, jobs)
+        && Part::Arcs.has_room(counts.arcs, arcs)
+        && Part::Sections.has_room(counts.sections, sections)
 }
 
-// Reads a text into the front of three lists. The whole text is read into lists of its own before the first value is written.
-pub fn read(text: &[u8], jobs: &mut [u32], arcs: &mut [u32], sections: &mut [u32]) -> Reading
+// Reads a text into the front of three lists, which come one by one, as C lends them. The whole text is read into lists of its own before
+// the first value is written; they have room for the largest table, as there is no heap.
+pub fn read(
+    text: &[u8],
+    jobs: &mut [u32],
+    arcs: &mut [u32],
+    sections: &mut [u32],
+) -> Result<Counts, Refusal>
     ensures { Reads text.now jobs.old arcs.old sections.old jobs.new arcs.new sections.new result }
 {
     let mut own_jobs = [0u32; 192];
     let mut own_arcs = [0u32; 512];
     let mut own_sections = [0u32; 512];
-    let found = reader::read_text(text, &mut own_jobs, &mut own_arcs, &mut own_sections);
-    match found {
-        Reading::Refused(_) => {}
-        Reading::Counts {
-            jobs: j,
-            arcs: a,
-            sections: s,
-        } => {
-            if !Part::Jobs.has_room(j, jobs.len()) {
-                return Reading::Refused(Refusal::Room);
-            }
-            if !Part::Arcs.has_room(a, arcs.len()) {
-                return Reading::Refused(Refusal::Room);
-            }
-            if !Part::Sections.has_room(s, sections.len()) {
-                return Reading::Refused(Refusal::Room);
-            }
-            reader::copy(&own_jobs, Part::Jobs.values(j), jobs);
-            reader::copy(&own_arcs, Part::Arcs.values(a), arcs);
-            reader::copy(&own_sections, Part::Sections.values(s), sections);
-        }
+    let counts = reader::read_text(text, &mut own_jobs, &mut own_arcs, &mut own_sections)?;
+    if !have_room(counts, jobs.len(), arcs.len(), sections.len()) {
+        return Err(Refusal::Room);
     }
-    found
+    let j = Part::Jobs.values(counts.jobs);
+    let a = Part::Arcs.values(counts.arcs);
+    let s = Part::Sections.values(counts.sections);
+    jobs[..j].copy_from_slice(&own_jobs[..j]);
+    arcs[..a].copy_from_slice(&own_arcs[..a]);
+    sections[..s].copy_from_slice(&own_sections[..s]);
+    Ok(counts)
+}
+
+// Whether a list is whole rows of a part, and a right number of them.
+fn judge(part: Part, values: &[u32]) -> Result<(), Refusal>
+    ensures { Judged (part_of part) (length values.now) result }
+{
+    if !part.right_length(values.len()) {
+        return Err(part.refusal(0));
+    }
+    Ok(())
 }
 
 // Writes the text of a table into the front of `out`. Counts and room are judged before the first byte is written.
-pub fn write(jobs: &[u32], arcs: &[u32], sections: &[u32], out: &mut [u8]) -> Writing
-    ensures { Writes jobs.now arcs.now sections.now out.old out.new result }
+pub fn write(table: &Table, out: &mut [u8]) -> Result<usize, Refusal>
+    ensures { Writes table.now out.old out.new result }
 {
-    if !Part::Jobs.right_length(jobs.len()) {
-        return Writing::Refused(Refusal::Jobs(0));
-    }
-    if !Part::Arcs.right_length(arcs.len()) {
-        return Writing::Refused(Refusal::Arcs(0));
-    }
-    if !Part::Sections.right_length(sections.len()) {
-        return Writing::Refused(Refusal::Sections(0));
-    }
-    let needed = parts::writer::text_length(jobs, arcs, sections);
+    judge(Part::Jobs, table.jobs())?;
+    judge(Part::Arcs, table.arcs())?;
+    judge(Part::Sections, table.sections())?;
+    let needed = parts::writer::text_length(table);
     if out.len() < needed {
-        return Writing::Refused(Refusal::Room);
+        return Err(Refusal::Room);
     }
-    parts::writer::put_text(out, jobs, arcs, sections);
-    Writing::Bytes(needed)
+    Ok(parts::writer::put_text(out, table))
 }

@@ -1,3 +1,3 @@
 -- What a judged plan and state are, and laws for marks.
-pub mod Lists
+pub mod Fits
 pub mod Marks

@@ -1,46 +1,44 @@
 -- Laws for the mark rule: looking through the arcs for a stale tail is looking through the direct predecessors.
-use Rattle.std.specs.Prelude.{◌≡◌, ◌≢◌, ◌⊎◌, Bool, ◌&&◌, ◌||◌, ℕ, ◌+◌, ◌*◌, ◌/◌, ◌<◌, set, eqb}
+use Rattle.std.specs.Prelude.{◌≡◌, ◌≢◌, ◌⊎◌, Bool, ◌&&◌, ℕ, ◌+◌, ◌<◌, set, eqb}
 use Rattle.std.proofs.Math.Path.{refl}
 use Rattle.std.proofs.Common.{◌∙◌, ap}
 use Rattle.std.proofs.Math.Logic.{⊎_elim}
-use mathlib.Core.List.{List, []}
-use Rattle.std.proofs.Math.ListN.{length, get_or}
 use Rattle.rules.specs.Rows.{any}
 use borrow.Author.Tests.{eq-eqb, ne_eqb}
-use Rattle.rules.specs.Table.{precedes}
-use Rattle.rules.specs.Tick.{ends_badly, ends_stale, mark_for}
+use Rattle.rules.specs.Table.{Table, Plan, State, job_count, arc_count, before, after, precedes, cost, executed, mark}
+use Rattle.rules.specs.Tick.{ends_stale, mark_for}
 use Rattle.laws.specs.Tests.{Says, so, not_so, eq_says, says_and}
 use Rattle.laws.specs.Rows.{any_says}
 use Rattle.laws.specs.Reach.{Arc, precedes_says}
 use Rattle.laws.specs.Events.{advance_by}
-use Rattle.rules.specs.Lists.{plan, state}
-use Rattle.ticks.specs.Lists.{ArcsFit}
+use Rattle.rules.specs.Lists.{state}
+use Rattle.ticks.specs.Fits.{ArcsFit}
 
 -- arc a leads from a stale job to this one
-unfoldable pub brings_stale : List ℕ → List ℕ → ℕ → ℕ → Bool
-brings_stale arcs marks job a = eqb (get_or arcs (2 * a + 1) 0) job && eqb (get_or marks (get_or arcs (2 * a) 0) 0) 2
+unfoldable pub brings_stale : Table → State → ℕ → ℕ → Bool
+brings_stale t st job a = eqb (after t a) job && eqb (mark st (before t a)) 2
 
--- a direct predecessor of the job, of n jobs, is marked stale
-unfoldable pub stale_before : List ℕ → List ℕ → ℕ → ℕ → Bool
+-- a direct predecessor of the job is marked stale
+unfoldable pub stale_before : Table → State → ℕ → Bool
 unfolding any precedes
-stale_before arcs marks job n = any (λ i. precedes (plan [] arcs [] []).table i job && eqb (get_or marks i 0) 2) n
+stale_before t st job = any (λ i. precedes t i job && eqb (mark st i) 2) (job_count t)
 
-module _ (arcs marks : List ℕ) (job n : ℕ) (fit : ArcsFit arcs n) where
-  pub stale_by_arcs : any (brings_stale arcs marks job) (length arcs / 2) ≡ stale_before arcs marks job n
+module _ (t : Table) (st : State) (job : ℕ) (fit : ArcsFit t) where
+  pub stale_by_arcs : any (brings_stale t st job) (arc_count t) ≡ stale_before t st job
   unfolding stale_before brings_stale
   stale_by_arcs =
       go
-      (any_says _ _ _ (λ a. says_and (eq_says (get_or arcs (2 * a + 1) 0) job) (eq_says (get_or marks (get_or arcs (2 * a) 0) 0) 2)) (length arcs / 2))
-      (any_says _ _ _ (λ i. says_and (precedes_says (plan [] arcs [] []).table i job) (eq_says (get_or marks i 0) 2)) n)
+      (any_says _ _ _ (λ a. says_and (eq_says (after t a) job) (eq_says (mark st (before t a)) 2)) (arc_count t))
+      (any_says _ _ _ (λ i. says_and (precedes_says t i job) (eq_says (mark st i) 2)) (job_count t))
     where
       go : {x y : Bool}
           → Says
-          ((a : ℕ) × (a < length arcs / 2) × ((get_or arcs (2 * a + 1) 0 ≡ job) × (get_or marks (get_or arcs (2 * a) 0) 0 ≡ 2)))
-          ((a : ℕ) → a < length arcs / 2 → (get_or arcs (2 * a + 1) 0 ≢ job) ⊎ (get_or marks (get_or arcs (2 * a) 0) 0 ≢ 2))
+          ((a : ℕ) × (a < arc_count t) × ((after t a ≡ job) × (mark st (before t a) ≡ 2)))
+          ((a : ℕ) → a < arc_count t → (after t a ≢ job) ⊎ (mark st (before t a) ≢ 2))
           x
           → Says
-          ((i : ℕ) × (i < n) × (Arc (plan [] arcs [] []).table i job × (get_or marks i 0 ≡ 2)))
-          ((i : ℕ) → i < n → (Arc (plan [] arcs [] []).table i job → ⊥) ⊎ (get_or marks i 0 ≢ 2))
+          ((i : ℕ) × (i < job_count t) × (Arc t i job × (mark st i ≡ 2)))
+          ((i : ℕ) → i < job_count t → (Arc t i job → ⊥) ⊎ (mark st i ≢ 2))
           y
           → x ≡ y
       go (so w) (so v) = refl
@@ -49,24 +47,23 @@ module _ (arcs marks : List ℕ) (job n : ℕ) (fit : ArcsFit arcs n) where
           ⊎_elim
           (λ k. absurd (k (record { number = a; in_table = l; tail = refl; head = e.0 })))
           (λ k. absurd (k e.1))
-          (v (get_or arcs (2 * a) 0) (fit.inside a l).0)
+          (v (before t a) (fit.inside a l).0)
       go (not_so w) (so (i, l, e)) =
           ⊎_elim
           (λ k. absurd (k e.0.head))
-          (λ k. absurd (k (ap (λ j. get_or marks j 0) e.0.tail ∙ e.1)))
+          (λ k. absurd (k (ap (λ j. mark st j) e.0.tail ∙ e.1)))
           (w e.0.number e.0.in_table)
 
 -- ---- what given ticks write, each way out
 
-module _ (jobs arcs executed marks finish : List ℕ) (now : ℕ) (silent : Bool) (job ticks n : ℕ) (count : length jobs / 3 ≡ n) where
-  pub ticks_end : (m : ℕ) → get_or executed job 0 + ticks ≡ get_or jobs (3 * job + 1) 0 → m ≡ mark_for (silent || stale_before arcs marks job n)
-      → state (now + ticks) (set executed job (get_or executed job 0 + ticks)) (set marks job m) (set finish job (now + ticks))
-      ≡ advance_by (plan jobs arcs [] []) (state now executed marks finish) silent job ticks
-  unfolding advance_by ends_stale ends_badly stale_before
-  ticks_end m e q = rw (q, eq-eqb _ _ e, ← count)
+module _ (p : Plan) (st : State) (silent : Bool) (job ticks : ℕ) where
+  pub ticks_end : (m : ℕ) → executed st job + ticks ≡ cost p.table job → m ≡ mark_for (ends_stale p st job silent)
+      → state (st.tick + ticks) (set st.executed job (executed st job + ticks)) (set st.marks job m) (set st.finish job (st.tick + ticks))
+      ≡ advance_by p st silent job ticks
+  unfolding advance_by
+  ticks_end m e q = rw (q, eq-eqb _ _ e)
 
-  pub ticks_go_on : (get_or executed job 0 + ticks ≡ get_or jobs (3 * job + 1) 0 → ⊥)
-      → state (now + ticks) (set executed job (get_or executed job 0 + ticks)) marks finish
-      ≡ advance_by (plan jobs arcs [] []) (state now executed marks finish) silent job ticks
+  pub ticks_go_on : (executed st job + ticks ≡ cost p.table job → ⊥)
+      → state (st.tick + ticks) (set st.executed job (executed st job + ticks)) st.marks st.finish ≡ advance_by p st silent job ticks
   unfolding advance_by
   ticks_go_on e = rw (ne_eqb _ _ e)

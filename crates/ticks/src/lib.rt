@@ -1,123 +1,86 @@
 #![tactic(auto)]
 // What a tick writes: how far the job is that ran, and its mark and finish where it ends. And whether all have finished.
-ghost use Rattle.std.specs.Prelude.{◌≡◌, ◌||◌, [], ◌+◌, ◌*◌, ◌/◌, ◌<◌, ◌≤◌, length, get_or};
+// What is asked of a plan or a state stands in each `requires`, as little as the function needs: ARCHITECTURE.md names these functions, and a
+// type that brought the facts along would ask more of their callers.
+ghost use Rattle.std.specs.Prelude.{◌≡◌, [], ◌+◌, ◌<◌, ◌≤◌, length};
+ghost use Rattle.rules.specs.Table as of;
 ghost use Rattle.rules.specs.Refusals.{all_finished};
-ghost use Rattle.rules.specs.Tick.{mark_for};
+ghost use Rattle.rules.specs.Tick.{ends_stale, mark_for};
+ghost use Rattle.rules.specs.Lists.{with_times, at};
+ghost use Rattle.rules.specs.Lent.{held, SameLists};
 ghost use Rattle.laws.specs.Events.{advance_by};
 ghost use Rattle.ticks.specs.Marks.{brings_stale, stale_before};
-ghost use Rattle.rules.specs.Lists.{plan, timed, state, at};
-ghost use Rattle.choice.specs.Lists.{as_option, Within};
-ghost use Rattle.ticks.specs.Lists.{ArcsFit, Same, Fit, Ticked};
+ghost use Rattle.ticks.specs.Fits.{ArcsFit, Marked, Same, Fit, Ticked};
 
-use choice::Found;
+use rules::plan::Plan;
+use rules::state::{FRESH, Lists, STALE, State};
+use rules::table::Table;
 
 // Whether arc a leads from a stale job to this one.
-fn brings_stale(arcs: &[u32], marks: &[u32], job: usize, a: usize) -> bool
-    requires { ArcsFit arcs.now (length marks.now) × (a < length arcs.now / 2) }
-    ensures { result ≡ brings_stale arcs.now marks.now job a }
+#[tactic(auto, using(std::proofs::lemmas::Bool::Decides::nat_tests), unfolding(crate::specs::Marks::brings_stale))]
+fn brings_stale(table: &Table, state: &State, job: usize, a: usize) -> bool
+    requires { ArcsFit table.now × Marked table.now state.now × (a < of.arc_count table.now) }
+    ensures { result ≡ brings_stale table.now state.now job a }
 {
-    if arcs[2 * a + 1] as usize != job {
-        return false;
-    }
-    let from = arcs[2 * a] as usize;
-    marks[from] == 2
+    let marks = state.marks();
+    table.after(a) == job && marks[table.before(a)] == STALE
 }
 
 // Whether a direct predecessor of the job is marked stale.
-fn after_stale(arcs: &[u32], marks: &[u32], job: usize) -> bool
-    requires { ArcsFit arcs.now (length marks.now) }
-    ensures { result ≡ stale_before arcs.now marks.now job (length marks.now) }
+fn after_stale(table: &Table, state: &State, job: usize) -> bool
+    requires { ArcsFit table.now × Marked table.now state.now }
+    ensures { result ≡ stale_before table.now state.now job }
 {
-    let many = arcs.len() / 2;
-    let mut a = 0;
-    while a < many {
-        if brings_stale(arcs, marks, job, a) {
-            return true;
-        }
-        a += 1;
-    }
-    false
+    (0..table.arc_count()).any(|a| brings_stale(table, state, job, a))
 }
 
 // The mark of a job that ends now.
-fn mark_at_end(arcs: &[u32], marks: &[u32], silent: bool, job: usize) -> u32
-    requires { ArcsFit arcs.now (length marks.now) }
-    ensures { result ≡ mark_for (silent || stale_before arcs.now marks.now job (length marks.now)) }
+#[tactic(auto, unfolding(rules::specs::Tick::ends_stale, rules::specs::Tick::ends_badly, crate::specs::Marks::stale_before))]
+fn mark_at_end(plan: &Plan, state: &State, silent: bool, job: usize) -> u32
+    requires { ArcsFit plan.now.table × Marked plan.now.table state.now }
+    ensures { result ≡ mark_for (ends_stale plan.now state.now job silent) }
 {
-    if silent {
-        return 2;
+    if silent || after_stale(plan.table(), state, job) {
+        STALE
+    } else {
+        FRESH
     }
-    if after_stale(arcs, marks, job) {
-        return 2;
-    }
-    1
 }
 
 // Gives the job so many ticks from this one on; if it ends with the last, it is marked by that one's report, and its finish is
 // the tick after it.
-pub fn give_ticks(
-    jobs: &[u32],
-    arcs: &[u32],
-    tick: u32,
-    executed: &mut [u32],
-    marks: &mut [u32],
-    finish: &mut [u32],
-    silent: bool,
-    job: usize,
-    ticks: u32,
-)
-    requires same { Same jobs.now executed.old marks.old finish.old × ArcsFit arcs.now (length marks.old) × (job < length executed.old) }
-    requires ticks_bound { (get_or executed.old job 0 + ticks ≤ get_or jobs.now (3 * job + 1) 0) × (tick + ticks ≤ 10000000) }
-    ensures { state (tick + ticks) executed.new marks.new finish.new
-        ≡ advance_by (plan jobs.now arcs.now [] []) (state tick executed.old marks.old finish.old) silent job ticks }
+pub fn give_ticks(plan: &Plan, tick: u32, lists: &mut Lists, silent: bool, job: usize, ticks: u32)
+    requires same { Same plan.now.table (held tick lists.old) × ArcsFit plan.now.table × (job < of.job_count plan.now.table) }
+    requires ticks_bound { (of.executed (held tick lists.old) job + ticks ≤ of.cost plan.now.table job) × (tick + ticks ≤ 10000000) }
+    ensures becomes { held (tick + ticks) lists.new ≡ advance_by plan.now (held tick lists.old) silent job ticks }
+    ensures lent { SameLists lists.old lists.new }
 {
-    let done = executed[job] + ticks;
-    executed[job] = done;
-    if done == jobs[3 * job + 1] {
-        marks[job] = mark_at_end(arcs, marks, silent, job);
-        finish[job] = tick + ticks;
+    let cost = plan.table().cost(job);
+    let done = lists.executed[job] + ticks;
+    lists.executed[job] = done;
+    if done == cost {
+        lists.marks[job] = mark_at_end(plan, &lists.at(tick), silent, job);
+        lists.finish[job] = tick + ticks;
     }
 }
 
 // One tick of a plan and a state that were judged: who ran.
-pub fn one_tick(
-    jobs: &[u32],
-    arcs: &[u32],
-    sections: &[u32],
-    times: &[u32],
-    tick: u32,
-    executed: &mut [u32],
-    marks: &mut [u32],
-    finish: &mut [u32],
-    silent: bool,
-) -> Found
-    requires { Fit jobs.now arcs.now sections.now times.now executed.old marks.old finish.old × (tick < 10000000) }
-    ensures { Within result (length executed.old) × Ticked (plan jobs.now arcs.now sections.now times.now)
-        (state tick executed.old marks.old finish.old) silent
-        (as_option result) (state (tick + 1) executed.new marks.new finish.new) }
+pub fn one_tick(plan: &Plan, tick: u32, lists: &mut Lists, silent: bool) -> Option<usize>
+    requires { Fit plan.now (held tick lists.old) × (tick < 10000000) }
+    ensures ticked { Ticked plan.now (held tick lists.old) silent result (held (tick + 1) lists.new) }
+    ensures lent { SameLists lists.old lists.new }
 {
-    let ran = choice::choose(jobs, sections, times, tick, executed);
-    match ran {
-        Found::Nothing => {}
-        Found::At(job) => {
-            give_ticks(jobs, arcs, tick, executed, marks, finish, silent, job, 1);
-        }
+    let ran = choice::choose(plan, &lists.at(tick));
+    if let Some(job) = ran {
+        give_ticks(plan, tick, lists, silent, job, 1);
     }
     ran
 }
 
 // Whether every job has finished.
-pub fn all_finished(jobs: &[u32], executed: &[u32]) -> bool
-    requires { length jobs.now ≡ 3 * length executed.now }
-    ensures { result ≡ all_finished (timed jobs.now []) (at 0 executed.now) }
+pub fn all_finished(table: &Table, executed: &[u32]) -> bool
+    requires { length executed.now ≡ of.job_count table.now }
+    ensures { result ≡ all_finished (with_times table.now []) (at 0 executed.now) }
 {
-    let n = executed.len();
-    let mut j = 0;
-    while j < n {
-        if executed[j] != jobs[3 * j + 1] {
-            return false;
-        }
-        j += 1;
-    }
-    true
+    (0..table.job_count()).all(|j| executed[j] == table.cost(j))
 }

@@ -2,7 +2,6 @@
 // Reads a table's text from standard input, runs the table to its end with every report answered, and prints what it came to.
 use std::io;
 use std::io::Write;
-use text::Writing;
 
 // The buffer has 65,536 bytes, and the longest right text has 20,830. A text that does not fit is therefore wrong, and its
 // first wrong line starts within the first 20,831 bytes, as the right lines before it begin some right text. That line ends
@@ -12,9 +11,8 @@ fn main(rt: HostRuntime) -> io::Result<()> {
     let mut text = [0u8; 65536];
     let n = reading::fill(&mut rt.stdin(), &mut text)?;
     let mut lines = [0u8; 5729];
-    let written = answer::answer(&text[..n], &mut lines);
-    match written {
-        Writing::Refused(_) => rt.stdout().write_all(b"refusal=11\nplace=0\n"),
-        Writing::Bytes(end) => rt.stdout().write_all(&lines[..end]),
+    match answer::answer(&text[..n], &mut lines) {
+        Ok(end) => rt.stdout().write_all(&lines[..end]),
+        Err(_) => rt.stdout().write_all(b"refusal=11\nplace=0\n"),
     }
 }

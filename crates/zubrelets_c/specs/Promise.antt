@@ -36,8 +36,8 @@ zub_read_settled u v =
     let w = read_settled u.1 v.1 in
     (one_form counts_of w.0 u.2 v.2, w.1, w.2, w.3)
 
-pub zub_write_settled : {j a s out out₁ out₂ : List ℕ} {r₁ r₂ : ZubLength}
-    → InC (Writes j a s out out₁) length_of r₁ → InC (Writes j a s out out₂) length_of r₂ → (r₁ ≡ r₂) × (out₁ ≡ out₂)
+pub zub_write_settled : {t : Table} {out out₁ out₂ : List ℕ} {r₁ r₂ : ZubLength}
+    → InC (Writes t out out₁) length_of r₁ → InC (Writes t out out₂) length_of r₂ → (r₁ ≡ r₂) × (out₁ ≡ out₂)
 zub_write_settled u v =
     let w = write_settled u.1 v.1 in
     (one_form length_of w.0 u.2 v.2, w.1)

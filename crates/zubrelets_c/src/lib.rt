@@ -1,5 +1,6 @@
 #![tactic(auto)]
-// The entries for C. A list goes in as a pointer and a length; include/zubrelets.h says for each what it takes and writes.
+// The entries for C. A list goes in as a pointer and a length, so each function takes its lists one by one, as
+// include/zubrelets.h has them; it says for each what it takes and writes.
 ghost use Rattle.rules.specs.Lists.{table, plan, state};
 ghost use Rattle.text.specs.Promises.{Reads, Writes};
 ghost use Rattle.plan.specs.Promise.{Plans};
@@ -10,6 +11,9 @@ ghost use Rattle.c_answers.specs.Answers.{counts_of, length_of, count_of, tick_o
 ghost use Rattle.zubrelets_c.specs.Promise.{InC};
 
 use c_answers::{ZubCount, ZubCounts, ZubLate, ZubLength, ZubStepped, ZubTick, ZubVerdict};
+use rules::plan::Plan;
+use rules::state::{Lists, State};
+use rules::table::Table;
 
 // Reads a table's text into lent lists.
 #[unsafe(no_mangle)]
@@ -22,7 +26,7 @@ pub extern "C" fn zub_read(
     ensures { InC (Reads text.now jobs.old arcs.old sections.old
         jobs.new arcs.new sections.new) counts_of result }
 {
-    c_answers::counts_of(text::read(text, jobs, arcs, sections))
+    text::read(text, jobs, arcs, sections).into()
 }
 
 // Writes a table's text into lent bytes.
@@ -33,9 +37,9 @@ pub extern "C" fn zub_write(
     sections: &[u32],
     out: &mut [u8],
 ) -> ZubLength
-    ensures { InC (Writes jobs.now arcs.now sections.now out.old out.new) length_of result }
+    ensures { InC (Writes (table jobs.now arcs.now sections.now) out.old out.new) length_of result }
 {
-    c_answers::length_of(text::write(jobs, arcs, sections, out))
+    text::write(&Table::new(jobs, arcs, sections), out).into()
 }
 
 // Checks a table and writes its modified times.
@@ -48,7 +52,7 @@ pub extern "C" fn zub_plan(
 ) -> ZubCount
     ensures { InC (λ a. Plans (table jobs.now arcs.now sections.now) times.old a times.new) count_of result }
 {
-    c_answers::count_of(plan::plan(jobs, arcs, sections, times))
+    plan::plan(&Table::new(jobs, arcs, sections), times).into()
 }
 
 // The density test of a plan.
@@ -61,7 +65,7 @@ pub extern "C" fn zub_density(
 ) -> ZubVerdict
     ensures { InC (density.Answers (plan jobs.now arcs.now sections.now times.now)) verdict_of result }
 {
-    c_answers::verdict_of(density::density(jobs, arcs, sections, times))
+    density::density(&Plan::new(Table::new(jobs, arcs, sections), times)).into()
 }
 
 // The state at tick 0 of a plan, into lent lists.
@@ -79,7 +83,13 @@ pub extern "C" fn zub_start(
         (lists executed.old marks.old finish.old) a
         (lists executed.new marks.new finish.new)) tick_of result }
 {
-    c_answers::tick_of(dispatch::start(jobs, arcs, sections, times, executed, marks, finish))
+    let plan = Plan::new(Table::new(jobs, arcs, sections), times);
+    let mut lists = Lists {
+        executed,
+        marks,
+        finish,
+    };
+    dispatch::start(&plan, &mut lists).into()
 }
 
 // One tick of a plan from a state, with its report.
@@ -99,9 +109,13 @@ pub extern "C" fn zub_step(
         (state tick executed.old marks.old finish.old) silent a
         (state a.tick executed.new marks.new finish.new)) stepped_of result }
 {
-    c_answers::stepped_of(dispatch::step(
-        jobs, arcs, sections, times, tick, executed, marks, finish, silent,
-    ))
+    let plan = Plan::new(Table::new(jobs, arcs, sections), times);
+    let mut lists = Lists {
+        executed,
+        marks,
+        finish,
+    };
+    dispatch::step(&plan, tick, &mut lists, silent).into()
 }
 
 // Runs a plan from tick 0 to its end, every report answered.
@@ -119,7 +133,13 @@ pub extern "C" fn zub_run(
         (lists executed.old marks.old finish.old) a
         (lists executed.new marks.new finish.new)) tick_of result }
 {
-    c_answers::tick_of(dispatch::run(jobs, arcs, sections, times, executed, marks, finish))
+    let plan = Plan::new(Table::new(jobs, arcs, sections), times);
+    let mut lists = Lists {
+        executed,
+        marks,
+        finish,
+    };
+    dispatch::run(&plan, &mut lists).into()
 }
 
 // The lateness of a job of a state.
@@ -138,9 +158,9 @@ pub extern "C" fn zub_lateness(
     ensures { InC (Lateness (plan jobs.now arcs.now sections.now times.now)
         (state tick executed.now marks.now finish.now) job) late_of result }
 {
-    c_answers::late_of(dispatch::lateness(
-        jobs, arcs, sections, times, tick, executed, marks, finish, job,
-    ))
+    let plan = Plan::new(Table::new(jobs, arcs, sections), times);
+    let state = State::new(tick, executed, marks, finish);
+    dispatch::lateness(&plan, &state, job).into()
 }
 
 // What the program prints for a text, into lent bytes.
@@ -148,5 +168,5 @@ pub extern "C" fn zub_lateness(
 pub extern "C" fn zub_answer(text: &[u8], out: &mut [u8]) -> ZubLength
     ensures { InC (Prints text.now out.old out.new) length_of result }
 {
-    c_answers::length_of(answer::answer(text, out))
+    answer::answer(text, out).into()
 }

@@ -1,12 +1,19 @@
--- The printed lines stand at the page's front and go out whole, where there is room.
-use Rattle.std.proofs.Common.{refl, arith}
+-- The printed lines go out whole, where there is room.
+use Rattle.std.proofs.Common.{◌≡◌, refl, ◌∙◌, ap, arith, length}
 use Rattle.answer.specs.Promise.{prints_short, prints_whole}
-use Rattle.page.specs.Page.{front_of_over}
+use Rattle.rules.specs.Output.{answer}
 use Rattle.answer.proofs.answer.Goals as goal
+use Rattle.answer.proofs.answer.Goals.{After-as_slice-lines}
 
-pub returns-then-out-n : goal.returns-then-out-n
-returns-then-out-n c = let o = c.print_text-n.ensures.0 in prints_short _ _ _ (omega (arith, o.end)) refl
+-- the lines are those of the rules
+lines : (c : After-as_slice-lines) → c.as_slice-lines.result.now ≡ answer c.args.text.now
+lines c = c.as_slice-lines.ensures.value ∙ c.print_text-page.ensures
+
+pub returns-then-out-lines : goal.returns-then-out-lines
+returns-then-out-lines c = let e = lines (goal.at.returns-then-out-lines c).After-as_slice-lines in
+    prints_short _ _ _ (rw e at c.if-out-lines.true) refl
 
 pub returns : goal.returns
-returns c = let o = c.print_text-n.ensures.0 in
-    prints_whole _ _ _ _ (omega (arith, o.end)) (omega arith) (rw (front_of_over o) at c.put_bytes.ensures.list)
+returns c = let e = lines (goal.at.returns c).After-as_slice-lines in
+    let l = ap length e in
+    prints_whole _ _ _ _ (omega (arith, l, c.put_bytes.ensures.end)) (omega (arith, c.put_bytes.ensures.end)) (rw e at c.put_bytes.ensures.list)

@@ -1,14 +1,12 @@
-use Rattle.std.proofs.Common.{refl, sym, ◌∙◌, arith}
-use Rattle.laws.specs.Rows.{all_next, all-not}
+-- All sections are asked.
+use Rattle.std.proofs.Common.{rules, refl, ap, ◌∙◌}
+use Rattle.laws.specs.Ranges.{all_rows}
 use Rattle.rules.specs.Rows.{all}
+use Rattle.rules.specs.Table.{section_count}
+use Rattle.choice.specs.Fits.{clear_of}
 use Rattle.choice.proofs.may_start.Goals as goal
 
-pub loop-s-init : goal.loop-s-init
-unfolding all
-loop-s-init c = (omega arith, refl)
-
-pub returns-then-not-clears : goal.returns-then-not-clears
-returns-then-not-clears c = sym (all-not _ _ c.loop-s.s (omega arith) (sym c.clears.ensures ∙ c.if-not-clears.true))
-
-pub loop-s-preserved : goal.loop-s-preserved
-loop-s-preserved c = (omega arith, all_next _ _ c.loop-s.invariant.1 (sym c.clears.ensures ∙ c.if-not-clears.false))
+pub returns : goal.returns
+returns c =
+    all_rows (clear_of c.args.plan.now c.args.span.0 c.args.units.now) _ c.all.ensures.ran refl (λ x q k. search rules) (λ x q k. search rules)
+    ∙ ap (all _) (c.section_count.ensures ∙ ap section_count c.table.ensures)

@@ -1,16 +1,10 @@
-use Rattle.std.proofs.Common.{sym, ◌∙◌, arith}
-use Rattle.cycles.specs.Chains.{cycle_is, cycle_at, cycle_none}
-use borrow.Author.Count.{below_more}
+use Rattle.std.proofs.Common.{rules, get_or, ◌∙◌}
+use Rattle.cycles.specs.Chains.{cycle_is}
+use Rattle.cycles.specs.Words.{has}
+use Rattle.laws.specs.Ranges.{lowest_row}
 use Rattle.cycles.proofs.lowest_on_cycle.Goals as goal
 
-pub returns-then-holds : goal.returns-then-holds
-returns-then-holds c = cycle_at _ _
-    (omega arith)
-    (cycle_is _ _ _ _ _ c.reached-words.ensures (omega arith) (sym c.if-holds.true ∙ c.holds.ensures))
-    c.loop-j.invariant.1
-
-pub loop-j-preserved : goal.loop-j-preserved
-loop-j-preserved c = (omega arith, below_more _ _ c.loop-j.invariant.1 (cycle_is _ _ _ _ _ c.reached-words.ensures (omega arith) (sym c.if-holds.false ∙ c.holds.ensures)))
-
 pub returns : goal.returns
-returns c = cycle_none _ _ (omega arith) c.loop-j.invariant.1
+returns c =
+    lowest_row (λ j. has (get_or c.reached-words.result j 0) j) _ _ c.find.ensures.ran (rw c.job_count.ensures) (λ x q k. search rules) (λ x q k. search rules)
+    ∙ cycle_is _ _ c.reached-words.ensures

@@ -1,73 +1,76 @@
 -- The start stands in the fronts, and the run goes on in them.
-use Rattle.std.proofs.Common.{length-take-le, ◌≡◌, sym, ◌∙◌, true, ◌≤◌, length}
-use Rattle.std.proofs.Math.Option.{none}
-use Rattle.std.proofs.Math.Path.{ap}
+use Rattle.std.proofs.Common.{length-take-le, ◌≡◌, ◌≤◌, sym, ◌∙◌, ap, true, length, None}
 use Rattle.dispatch.specs.Judged.{plan_fit, bounded}
-use Rattle.dispatch.specs.Promise.{Lists, lists, holding, fault_for, reach_for, start-room, reached_holds, run_holds}
-use Rattle.rules.specs.Lists.{plan}
+use Rattle.dispatch.specs.Promise.{contents, holding, fault_for, reach_for, start-room, start_long, reached_holds, run_holds}
 use Rattle.rules.specs.Refusals.{plan_in_bounds}
-use Rattle.rules.specs.Run.{start, end_state, all_end_by}
-use Rattle.rules.specs.Table.{job_count, Plan}
+use Rattle.rules.specs.Run.{start, end_state}
+use Rattle.rules.specs.Table.{job_count}
 use Rattle.dispatch.proofs.run.Goals as goal
-use Rattle.dispatch.proofs.run.Goals.{In_default}
-
--- the plan and the lists as they came, and the lists as the start left them
-abbrev P : In_default → Plan
-P c = plan c.args.jobs.now c.args.arcs.now c.args.sections.now c.args.times.now
-
-abbrev L : In_default → Lists
-L c = lists c.args.executed.now c.args.marks.now c.args.finish.now
-
-abbrev L₁ : In_default → Lists
-L₁ c = lists c.start-begun.new.executed c.start-begun.new.marks c.start-begun.new.finish
+use Rattle.dispatch.proofs.run.Goals.{In_ok-start, After-job_count-n}
 
 -- the start state stands in the fronts
-facts : (c : In_default) → (fault_for (P c) (L c) ≡ none) × (L₁ c ≡ holding (start (P c)) (L c))
-facts c = reached_holds (start (P c)) (L c) (L₁ c) (fault_for (P c) (L c)) c.in_default.field-0 c.in_default.ensures.is
+facts : (c : In_ok-start) → (fault_for c.args.plan.now (contents c.args.lists.now) ≡ None)
+    × (contents c.start.new.lists ≡ holding (start c.args.plan.now) (contents c.args.lists.now))
+facts c =
+    reached_holds (start c.args.plan.now) (contents c.args.lists.now) (contents c.start.new.lists) (fault_for c.args.plan.now (contents c.args.lists.now))
+    c.in_ok-start.field-0 (rw c.in_ok-start.was at c.start.ensures.starts.is)
 
--- and the fronts are as long as the table
-roomy : (c : In_default) → let n = job_count (P c).table in
-    (plan_in_bounds (P c) ≡ true)
-    × (n ≤ length (L₁ c).executed)
-    × (n ≤ length (L₁ c).marks)
-    × (n ≤ length (L₁ c).finish)
-roomy c = let r = start-room (P c) _ _ _ (facts c).0 in
-    let k = c.start-begun.auto in
-    (r.0, rw k.executed r.1, rw k.marks r.2, rw k.finish r.3)
+plan_right : (c : In_ok-start) → plan_in_bounds c.args.plan.now ≡ true
+plan_right c = (start-room _ _ _ _ (facts c).0).0
 
-pub slice_bounds-run_on-end : goal.slice_bounds-run_on-end
-slice_bounds-run_on-end c = (roomy (goal.at.slice_bounds-run_on-end c).In_default).1
+-- and the lists are as long as the jobs at least
+roomy : (c : In_ok-start) → let n = job_count c.args.plan.now.table in let l = contents c.start.new.lists in
+    (n ≤ length l.executed) × (n ≤ length l.marks) × (n ≤ length l.finish)
+roomy c = start_long c.args.plan.now (contents c.args.lists.now) (contents c.start.new.lists) (facts c).1
 
-pub slice_bounds-run_on-end-2 : goal.slice_bounds-run_on-end-2
-slice_bounds-run_on-end-2 c = sym (length-take-le _ _ (roomy (goal.at.slice_bounds-run_on-end-2 c).In_default).1)
+jobs : (c : After-job_count-n) → c.job_count-n.result ≡ job_count c.args.plan.now.table
+jobs c = c.job_count-n.ensures ∙ ap job_count c.table.ensures
 
-pub slice_bounds-run_on-end-3 : goal.slice_bounds-run_on-end-3
-slice_bounds-run_on-end-3 c = (roomy (goal.at.slice_bounds-run_on-end-3 c).In_default).2
+pub slice_bounds-run_in-end : goal.slice_bounds-run_in-end
+slice_bounds-run_in-end c = let here = goal.at.slice_bounds-run_in-end c in rw (jobs here.After-job_count-n) (roomy here.In_ok-start).0
 
-pub slice_bounds-run_on-end-4 : goal.slice_bounds-run_on-end-4
-slice_bounds-run_on-end-4 c = sym (length-take-le _ _ (roomy (goal.at.slice_bounds-run_on-end-4 c).In_default).2)
+pub slice_bounds-run_in-end-2 : goal.slice_bounds-run_in-end-2
+slice_bounds-run_in-end-2 c = let here = goal.at.slice_bounds-run_in-end-2 c in
+    rw (jobs here.After-job_count-n) (sym (length-take-le _ _ (roomy here.In_ok-start).0))
 
-pub slice_bounds-run_on-end-5 : goal.slice_bounds-run_on-end-5
-slice_bounds-run_on-end-5 c = (roomy (goal.at.slice_bounds-run_on-end-5 c).In_default).3
+pub slice_bounds-run_in-end-3 : goal.slice_bounds-run_in-end-3
+slice_bounds-run_in-end-3 c = let here = goal.at.slice_bounds-run_in-end-3 c in rw (jobs here.After-job_count-n) (roomy here.In_ok-start).1
 
-pub slice_bounds-run_on-end-6 : goal.slice_bounds-run_on-end-6
-slice_bounds-run_on-end-6 c = sym (length-take-le _ _ (roomy (goal.at.slice_bounds-run_on-end-6 c).In_default).3)
+pub slice_bounds-run_in-end-4 : goal.slice_bounds-run_in-end-4
+slice_bounds-run_in-end-4 c = let here = goal.at.slice_bounds-run_in-end-4 c in
+    rw (jobs here.After-job_count-n) (sym (length-take-le _ _ (roomy here.In_ok-start).1))
 
-pub run_on-end-requires : goal.run_on-end-requires
-run_on-end-requires c = let r = roomy (goal.at.run_on-end-requires c).In_default in
-    (plan_fit _ _ _ _ 0 _ _ _ r.0 (length-take-le _ _ r.1) (length-take-le _ _ r.2) (length-take-le _ _ r.3), bounded _ _ _ _ r.0)
+pub slice_bounds-run_in-end-5 : goal.slice_bounds-run_in-end-5
+slice_bounds-run_in-end-5 c = let here = goal.at.slice_bounds-run_in-end-5 c in rw (jobs here.After-job_count-n) (roomy here.In_ok-start).2
 
-pub returns : goal.returns
-unfolding all_end_by
-returns c = let b = (goal.at.returns c).In_default in
-    let n = job_count (P b).table in
-    let r = roomy b in
-    let k = c.run_on-end.auto in
+pub slice_bounds-run_in-end-6 : goal.slice_bounds-run_in-end-6
+slice_bounds-run_in-end-6 c = let here = goal.at.slice_bounds-run_in-end-6 c in
+    rw (jobs here.After-job_count-n) (sym (length-take-le _ _ (roomy here.In_ok-start).2))
+
+pub run_in-end-requires : goal.run_in-end-requires
+run_in-end-requires c = let here = goal.at.run_in-end-requires c in
+    let r = roomy here.In_ok-start in
+    rw (jobs here.After-job_count-n) (
+      plan_fit _ (plan_right here.In_ok-start) _
+          (record {
+            by_job = length-take-le _ _ r.0;
+            marked = record { by_job = length-take-le _ _ r.1 };
+            finished = length-take-le _ _ r.2;
+          }),
+      bounded _ (plan_right here.In_ok-start),
+    )
+
+pub returns-clause-runs : goal.returns-clause-runs
+returns-clause-runs c = let here = goal.at.returns-clause-runs c in
+    let n = jobs here.After-job_count-n in
+    let r = roomy here.In_ok-start in
+    let k = c.run_in-end.auto in
     record {
       is =
-          run_holds (P b) (L b) (L₁ b) _ _ _ _ (facts b).1 c.run_on-end.ensures
-          (k.executed ∙ length-take-le n (L₁ b).executed r.1)
-          (k.marks ∙ length-take-le n (L₁ b).marks r.2)
-          (k.finish ∙ length-take-le n (L₁ b).finish r.3)
-          ∙ sym (ap (reach_for (end_state (P b)) (L b)) (facts b).0);
+          rw n
+          (run_holds c.args.plan.now (contents c.args.lists.now) (contents c.start.new.lists) _ _ _ _ (facts here.In_ok-start).1 (rw n at c.run_in-end.ensures)
+          ((rw n at k.executed) ∙ length-take-le _ _ r.0)
+          ((rw n at k.marks) ∙ length-take-le _ _ r.1)
+          ((rw n at k.finish) ∙ length-take-le _ _ r.2)
+          ∙ sym (ap (reach_for (end_state c.args.plan.now) (contents c.args.lists.now)) (facts here.In_ok-start).0));
     }

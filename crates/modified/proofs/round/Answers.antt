@@ -3,8 +3,8 @@ use Rattle.modified.specs.Rounds.{brought-none, brought_more}
 use Rattle.modified.proofs.round.Goals as goal
 
 pub loop-a-init : goal.loop-a-init
-loop-a-init c = (omega arith, brought-none _ _ _ _ _ c.starts-new.ensures)
+loop-a-init c = brought-none _ _ _ _ c.starts-new.ensures
 
 pub loop-a-preserved : goal.loop-a-preserved
 loop-a-preserved c = let p = c.requires in
-    (omega arith, brought_more _ _ _ _ _ _ _ p.0 (p.1 c.loop-a.a (omega arith)) c.loop-a.invariant.1 c.carry.ensures)
+    brought_more _ _ _ _ _ _ p.jobs_in (p.arcs_in c.loop-a.a (omega arith)) c.loop-a.invariant c.carry.ensures

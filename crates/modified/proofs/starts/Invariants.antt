@@ -1,10 +1,7 @@
 -- Invariant: each job gone through has what it has by itself.
-use Rattle.std.proofs.Common.{◌≡◌, ℕ, ◌≤◌, ◌<◌, ◌-◌, length, get_or}
+use Rattle.std.proofs.Common.{◌≡◌, ℕ, ◌<◌, length, get_or}
 use Rattle.modified.specs.Rounds.{start_of}
 use Rattle.modified.proofs.starts.Given as goal
 
 abbrev pub invariant-loop-j : goal.invariant-loop-j
-invariant-loop-j l = (l.j ≤ l.n) × (length l.v ≡ 64) × ((k : ℕ) → k < l.j → get_or l.v k 0 ≡ start_of l.jobs l.way k)
-
-abbrev pub decreases-loop-j : goal.decreases-loop-j
-decreases-loop-j l = l.n - l.j
+invariant-loop-j l = (length l.times ≡ 64) × ((k : ℕ) → k < l.j → get_or l.times k 0 ≡ start_of l.table l.way k)

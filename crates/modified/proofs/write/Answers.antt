@@ -1,10 +1,9 @@
-use Rattle.std.proofs.Common.{refl, arith}
-use Rattle.std.proofs.Math.ListN.{length-set}
+use Rattle.std.proofs.Common.{arith}
 use Rattle.modified.specs.Rounds.{pairs_none, pairs_more}
 use Rattle.modified.proofs.write.Goals as goal
 
 pub loop-j-init : goal.loop-j-init
-loop-j-init c = (omega arith, refl, pairs_none _ _ _)
+loop-j-init c = pairs_none _ _ _
 
 pub loop-j-preserved : goal.loop-j-preserved
-loop-j-preserved c = (omega arith, simp length-set c.loop-j.invariant.1, pairs_more _ _ _ _ _ (omega arith) c.loop-j.invariant.2)
+loop-j-preserved c = pairs_more _ _ _ _ _ (omega arith) c.loop-j.invariant

@@ -1,18 +1,32 @@
 -- What 2 to 7 find is the answer, else what 8 finds.
-use Rattle.std.proofs.Common.{refl, sym, ◌∙◌}
-use Rattle.std.proofs.Math.Path.{ap}
-use Rattle.rows.specs.Judged.{fault_in}
-use Rattle.rows.specs.Stages.{few_rows, told, last_of, clashes_are, values_counts}
-use Rattle.rows.specs.declared.Rule.TheVariants.{Clash}
+use Rattle.std.proofs.Common.{◌≡◌, rules, refl, sym, ◌∙◌, arith}
+use Rattle.std.proofs.lemmas.Result.{err_from_is_err_and}
+use Rattle.laws.specs.Ranges.{lowest_row}
+use Rattle.rows.specs.Stages.{few_rows, found_below, clashes_are, values_counts}
+use Rattle.rules.specs.Refusals.{clashes}
+use Rattle.rules.specs.Rows.{lowest}
+use Rattle.rules.specs.Table.{section_count}
 use Rattle.rows.proofs.judge_clashes.Goals as goal
+use Rattle.rows.proofs.judge_clashes.Goals.{After-find}
 
-pub returns-in-Wrong : goal.returns-in-Wrong
-returns-in-Wrong c = let e = c.in-Wrong.is in
-    ap fault_in e ∙ clashes_are _ (told c.judge_values-values.ensures e) refl
+section : (c : After-find) → c.find.result ≡ lowest (clashes c.args.table.now) (section_count c.args.table.now)
+section c = lowest_row (clashes c.args.table.now) _ _ c.find.ensures.ran (rw c.section_count.ensures) (λ x q k. search rules) (λ x q k. search rules)
 
-pub lowest_row-requires : goal.lowest_row-requires
-lowest_row-requires c = let v = told c.judge_values-values.ensures c.in_default.is in
-    (refl, few_rows _ (values_counts _ v) Clash)
+pub returns-in_err-judge_values : goal.returns-in_err-judge_values
+returns-in_err-judge_values c =
+    let p = err_from_is_err_and c.from_residual.result c.from_residual.ensures.1 in
+    rw (p.1, p.2) (clashes_are _ c.in_err-judge_values.ensures refl)
 
-pub returns : goal.returns
-returns c = last_of _ ∙ clashes_are _ (told c.judge_values-values.ensures c.in_default.is) (sym c.lowest_row.ensures)
+pub overflow_cast-result : goal.overflow_cast-result
+overflow_cast-result c =
+    omega (
+      arith,
+      few_rows _ (values_counts _ c.in_ok-judge_values.ensures),
+      found_below _ _ (sym c.in-Some.is ∙ section (goal.at.overflow_cast-result c).After-find),
+    )
+
+pub returns-in-Some : goal.returns-in-Some
+returns-in-Some c = clashes_are _ c.in_ok-judge_values.ensures (sym c.in-Some.is ∙ section (goal.at.returns-in-Some c).After-find)
+
+pub returns-in-None : goal.returns-in-None
+returns-in-None c = clashes_are _ c.in_ok-judge_values.ensures (sym c.in-None.is ∙ section (goal.at.returns-in-None c).After-find)

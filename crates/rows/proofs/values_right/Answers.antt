@@ -1,28 +1,47 @@
--- The answers of counts, jobs, arcs and sections make up the whole one.
-use Rattle.std.proofs.Common.{refl, sym, ◌∙◌}
-use Rattle.rows.specs.Stages.{told, values_asked}
-use Rattle.rules.specs.Refusals.{job_out, arc_out, section_out}
+-- The tests in turn: up to the first that fails, or all, they make up whether anything is found.
+use Rattle.std.proofs.Common.{◌≡◌, not, rules, refl, sym, ◌∙◌, ap}
+use Rattle.laws.specs.Ranges.{all_rows}
+use Rattle.laws.specs.Tests.{clash}
+use Rattle.rules.specs.Refusals.{accepted, first_of, count_faults, arc_out, job_out, section_out}
+use Rattle.rules.specs.Rows.{all}
+use Rattle.rules.specs.Table.{arc_count}
+use Rattle.rows.specs.Stages.{ok_accepted, values_asked}
 use Rattle.rows.proofs.values_right.Goals as goal
+use Rattle.rows.proofs.values_right.Goals.{After-is_ok, then-is_ok, else-is_ok, then-arcs_right, else-arcs_right}
 
-pub returns-in-Wrong : goal.returns-in-Wrong
-returns-in-Wrong c = values_asked _ (told c.counts_judged-counts.ensures c.in-Wrong.is) refl refl refl
+counts : (c : After-is_ok) → c.is_ok.result ≡ accepted (first_of (count_faults c.args.table.now))
+counts c = c.is_ok.ensures.value ∙ ok_accepted _ ∙ ap accepted c.judge_counts.ensures
 
-pub returns-then-not-jobs_right : goal.returns-then-not-jobs_right
-unfolding job_out
-returns-then-not-jobs_right c = values_asked _ (told c.counts_judged-counts.ensures c.in_default.is) (sym c.jobs_right.ensures ∙ c.if-not-jobs_right.true) refl refl
+pub returns-then-all : goal.returns-then-all
+returns-then-all c =
+    elim c.if-arcs_right.branch [
+      | then-arcs_right w ↦
+          elim c.if-is_ok.branch [
+            | then-is_ok v ↦
+                values_asked _
+                (sym v.if-is_ok.true ∙ counts (goal.at.returns-then-all c).After-is_ok)
+                (sym w.if-arcs_right.true ∙ v.value-is ∙ v.arcs_right.ensures)
+                (sym c.if-all.true ∙ w.value-is ∙ all_rows (λ j. not (job_out c.args.table.now j)) _ w.all.ensures.ran (rw w.job_count.ensures) (λ x q k. search rules) (λ x q k. search rules))
+                (all_rows (λ s. not (section_out c.args.table.now s)) _ c.all-then-all.ensures.ran (rw c.section_count.ensures) (λ x q k. search rules) (λ x q k. search rules))
+            | else-is_ok v ↦ clash w.if-arcs_right.true (v.value-is ∙ v.if-is_ok.false)
+          ]
+      | else-arcs_right w ↦ clash c.if-all.true (w.value-is ∙ w.if-arcs_right.false)
+    ]
 
-pub returns-then-not-arcs_right : goal.returns-then-not-arcs_right
-unfolding job_out arc_out
-returns-then-not-arcs_right c = values_asked _
-    (told c.counts_judged-counts.ensures c.in_default.is)
-    (sym c.jobs_right.ensures ∙ c.if-not-jobs_right.false)
-    (sym c.arcs_right.ensures ∙ c.if-not-arcs_right.true)
-    refl
-
-pub returns : goal.returns
-unfolding job_out arc_out section_out
-returns c = values_asked _
-    (told c.counts_judged-counts.ensures c.in_default.is)
-    (sym c.jobs_right.ensures ∙ c.if-not-jobs_right.false)
-    (sym c.arcs_right.ensures ∙ c.if-not-arcs_right.false)
-    (sym c.sections_right.ensures)
+pub returns-else-all : goal.returns-else-all
+returns-else-all c =
+    c.if-all.false
+    ∙ elim c.if-is_ok.branch [
+      | then-is_ok v ↦
+          let ok = sym v.if-is_ok.true ∙ counts (goal.at.returns-else-all c).After-is_ok in
+          let arcs : c.if-is_ok.value ≡ all (λ a. not (arc_out c.args.table.now a)) (arc_count c.args.table.now) = v.value-is ∙ v.arcs_right.ensures in
+          elim c.if-arcs_right.branch [
+            | then-arcs_right w ↦
+                values_asked _ ok
+                (sym w.if-arcs_right.true ∙ arcs)
+                (sym c.if-all.false ∙ w.value-is ∙ all_rows (λ j. not (job_out c.args.table.now j)) _ w.all.ensures.ran (rw w.job_count.ensures) (λ x q k. search rules) (λ x q k. search rules))
+                refl
+            | else-arcs_right w ↦ values_asked _ ok (sym w.if-arcs_right.false ∙ arcs) refl refl
+          ]
+      | else-is_ok v ↦ values_asked _ (sym v.if-is_ok.false ∙ counts (goal.at.returns-else-all c).After-is_ok) refl refl refl
+    ]

@@ -6,15 +6,15 @@ use Rattle.sums.proofs.sum_to.Goals.{then-counts, else-counts}
 
 pub loop-i-init : goal.loop-i-init
 unfolding sum
-loop-i-init c = (omega arith, omega arith, refl)
+loop-i-init c = (omega arith, refl)
 
 pub loop-i-preserved : goal.loop-i-preserved
 loop-i-preserved c = let s = sym c.sorts_before-counts.ensures in
+    let n = rw c.table.ensures at c.job_count-i-end.ensures in
     elim c.if-counts.branch [
       | then-counts w ↦ (
-        omega arith,
-        omega (arith, w.total-is, c.loop-i.invariant.1, c.requires.2.most c.loop-i.i (omega arith)),
+        omega (arith, w.total-is, c.loop-i.invariant.0, c.requires.1.most c.loop-i.i (omega (arith, n))),
         simp (sum_more, s ∙ w.if-counts.true) (omega (arith, w.total-is)),
       )
-      | else-counts w ↦ (omega arith, omega arith, simp (sum_more, s ∙ w.if-counts.false) (omega arith))
+      | else-counts w ↦ (omega arith, simp (sum_more, s ∙ w.if-counts.false) (omega arith))
     ]

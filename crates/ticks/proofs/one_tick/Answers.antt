@@ -1,46 +1,32 @@
 -- The choice, and what it does: idle or a given tick.
-use Rattle.std.proofs.Common.{◌≡◌, sym, ◌∙◌, ◌+◌, ◌*◌, ◌<◌, arith, length, get_or}
-use Rattle.std.proofs.Math.Option.{some}
-use Rattle.choice.specs.Choice.{found-is, found_at, found_none}
-use Rattle.choice.specs.Lists.{within-at}
-use Rattle.laws.specs.Chosen.{chosen_left, tick_idle, tick_runs}
-use Rattle.laws.specs.Events.{advance_by}
+use Rattle.std.proofs.Common.{◌≡◌, sym, ◌∙◌, ◌<◌, arith, Some}
+use Rattle.laws.specs.Chosen.{chosen-pending, chosen_left, tick_idle, tick_runs}
 use Rattle.laws.proofs.Events.{advance-one}
-use Rattle.rules.specs.Lists.{plan, state}
+use Rattle.rules.specs.Lent.{held}
+use Rattle.rules.specs.Table.{job_count}
 use Rattle.rules.specs.Tick.{chosen}
-use Rattle.rules.specs.Table.{Plan, State}
 use Rattle.ticks.proofs.one_tick.Goals as goal
-use Rattle.ticks.proofs.one_tick.Goals.{In-At}
+use Rattle.ticks.proofs.one_tick.Goals.{In-Some}
 
--- the plan and the state at the entry
-abbrev P : In-At → Plan
-P c = plan c.args.jobs.now c.args.arcs.now c.args.sections.now c.args.times.now
+runs : (c : In-Some) → chosen c.args.plan.now (held c.args.tick c.args.lists.now) ≡ Some c.in-Some.job
+runs c = sym (rw c.at.ensures at c.choose-ran.ensures) ∙ c.in-Some.is
 
-abbrev S : In-At → State
-S c = state c.args.tick c.args.executed.now c.args.marks.now c.args.finish.now
+in_table : (c : In-Some) → c.in-Some.job < job_count c.args.plan.now.table
+in_table c = (chosen-pending _ _ _ (runs c)).0
 
-runs : (c : In-At) → chosen (P c) (S c) ≡ some c.in-At.job
-runs c = found_at _ _ _ _ _ _ _ _ _ c.choose-ran.ensures.1 _ c.in-At.is
+pub give_ticks-requires-clause-same : goal.give_ticks-requires-clause-same
+give_ticks-requires-clause-same c = let f = c.requires.0 in
+    (f.lists, f.arcs_fit, in_table (goal.at.give_ticks-requires-clause-same c).In-Some)
 
-in_table : (c : In-At) → c.in-At.job < length c.args.executed.now
-in_table c = within-at _ _ _ c.choose-ran.ensures.0 c.in-At.is
+pub give_ticks-requires-clause-ticks_bound : goal.give_ticks-requires-clause-ticks_bound
+give_ticks-requires-clause-ticks_bound c =
+    let l = chosen_left _ _ _ (runs (goal.at.give_ticks-requires-clause-ticks_bound c).In-Some) in
+    (omega arith, omega arith)
 
-unfinished : (c : In-At) → get_or c.args.executed.now c.in-At.job 0 < get_or c.args.jobs.now (3 * c.in-At.job + 1) 0
-unfinished c = chosen_left (P c) (S c) c.in-At.job (runs c)
+pub returns-in_default-clause-ticked : goal.returns-in_default-clause-ticked
+returns-in_default-clause-ticked c = let w = rw c.at.ensures at c.choose-ran.ensures in
+    record { who = w; becomes = tick_idle _ _ _ (sym w ∙ c.in_default.is) }
 
-pub give_ticks-requires : goal.give_ticks-requires
-give_ticks-requires c = let ran = (goal.at.give_ticks-requires c).In-At in
-    let f = c.requires.0 in
-    record {
-      same = (f.lists, rw f.lists.marked f.arcs_fit, in_table ran);
-      ticks_bound = (omega (arith, unfinished ran), omega arith);
-    }
-
-pub returns-in-Nothing : goal.returns-in-Nothing
-returns-in-Nothing c = let w = c.choose-ran.ensures in
-    (w.0, record { who = found-is _ _ _ _ _ _ _ _ c.choose-ran.result w.1; becomes = tick_idle _ _ _ (found_none _ _ _ _ _ _ _ _ _ w.1 c.in-Nothing.is) })
-
-pub returns-in-At : goal.returns-in-At
-unfolding advance_by
-returns-in-At c = let here = goal.at.returns-in-At c in
-    ((in_table here.In-At), record { who = sym (runs here.In-At); becomes = c.give_ticks.ensures ∙ advance-one _ _ _ _ ∙ tick_runs _ _ _ _ (runs here.In-At) })
+pub returns-in-Some-clause-ticked : goal.returns-in-Some-clause-ticked
+returns-in-Some-clause-ticked c = let r = runs (goal.at.returns-in-Some-clause-ticked c).In-Some in
+    record { who = sym r; becomes = c.give_ticks.ensures.becomes ∙ advance-one _ _ _ _ ∙ tick_runs _ _ _ _ r }

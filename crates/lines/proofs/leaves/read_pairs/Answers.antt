@@ -1,22 +1,16 @@
-use Rattle.std.proofs.Common.{sym, ◌∙◌, ◌+◌, ◌<◌, ◌≤◌, arith, length}
-use Rattle.laws.specs.Digits.{low}
-use Rattle.lines.proofs.Numbers.{pair, pair_small}
+use Rattle.std.proofs.Common.{◌≡◌, true, ◌+◌, arith, get_or}
+use Rattle.rules.specs.Text.{is_digit}
+use Rattle.lines.proofs.Numbers.{digit, pair, pair_small}
 use Rattle.lines.proofs.leaves.read_pairs.Goals as goal
 
-pub overflow_sub-tens : goal.overflow_sub-tens
-overflow_sub-tens c = omega (arith, low _ (sym c.is_digit.ensures ∙ c.if-not-is_digit.false))
-
-pub overflow_sub-ones : goal.overflow_sub-ones
-overflow_sub-ones c = omega (arith, low _ (sym c.is_digit-in-loop-i.ensures ∙ c.if-not-is_digit-2.false))
-
-pub loop-i-preserved : goal.loop-i-preserved
-loop-i-preserved c = let inv = c.loop-i.invariant in
-    let h : c.loop-i.i + 1 < length c.args.digits.now = omega arith in
-    let s : c.loop-i.i ≤ 7 = omega arith in
-    rw (c.wide.ensures, c.wide-in-loop-i.ensures) (
-      omega arith,
-      pair_small inv.4 h s inv.0 inv.1 (sym c.is_digit.ensures ∙ c.if-not-is_digit.false) (sym c.is_digit-in-loop-i.ensures ∙ c.if-not-is_digit-2.false),
-      inv.2,
-      inv.3,
-      pair inv.4 h s inv.0 inv.1 (sym c.is_digit.ensures ∙ c.if-not-is_digit.false) (sym c.is_digit-in-loop-i.ensures ∙ c.if-not-is_digit-2.false),
-    )
+pub loop-end-preserved : goal.loop-end-preserved
+loop-end-preserved c = let inv = c.loop-end.invariant in
+    let s = c.args.digits.now in
+    let i = c.loop-end.end in
+    let tens : is_digit (get_or s i 0) ≡ true = digit _ c.is_ascii_digit.ensures.value c.if-not-is_ascii_digit.false in
+    let ones : is_digit (get_or s (i + 1) 0) ≡ true = digit _ c.is_ascii_digit-else-not-is_ascii_digit.ensures.value c.if-not-is_ascii_digit-2.false in
+    rw (c.from.ensures, c.from-in-loop-end.ensures) record {
+      positive = omega arith;
+      few = pair_small inv.counting (omega arith) (omega arith) inv.positive inv.few tens ones;
+      counting = pair inv.counting (omega arith) (omega arith) inv.positive inv.few tens ones;
+    }

@@ -1,8 +1,7 @@
-use Rattle.lines.proofs.Putting.{copy, copied}
+-- `lines::writer::put_bytes` meets its contract.
+use Rattle.std.proofs.Common.{arith, refl}
+use Rattle.lines.specs.Pieces.{part-put}
 use Rattle.lines.proofs.writer.put_bytes.Goals as goal
 
-pub loop-i-preserved : goal.loop-i-preserved
-loop-i-preserved c = copy c.loop-i.invariant c.loop-i-test.true
-
 pub returns : goal.returns
-returns c = copied c.loop-i.invariant c.loop-i-test.false
+returns c = record { end = refl; list = part-put _ _ _ _ _ c.copy_from_slice.ensures.after (omega arith) }

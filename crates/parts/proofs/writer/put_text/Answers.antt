@@ -4,17 +4,23 @@ use Rattle.parts.specs.Rows.{text_length, text_put}
 use Rattle.parts.proofs.writer.put_text.Goals as goal
 
 pub put_part-arcs_at-requires : goal.put_part-arcs_at-requires
-put_part-arcs_at-requires c = let a = c.args in
-    record { counted = c.requires.table_counted.jobs_counted; values_in_bounds = omega (arith, text_length a.jobs.now a.arcs.now a.sections.now) }
+put_part-arcs_at-requires c = let l = text_length c.args.table.now in
+    rw c.jobs.ensures record { counted = c.requires.counted.jobs; values_in_bounds = omega arith }
 
 pub put_part-sections_at-requires : goal.put_part-sections_at-requires
-put_part-sections_at-requires c = let a = c.args in
-    record { counted = c.requires.table_counted.arcs_counted; values_in_bounds = omega (arith, text_length a.jobs.now a.arcs.now a.sections.now) }
+put_part-sections_at-requires c = let l = text_length c.args.table.now in
+    let p = rw c.jobs.ensures at c.put_part-arcs_at.ensures in
+    rw c.arcs.ensures record { counted = c.requires.counted.arcs; values_in_bounds = omega (arith, p.end) }
 
 pub put_part-requires : goal.put_part-requires
-put_part-requires c = let a = c.args in
-    record { counted = c.requires.table_counted.sections_counted; values_in_bounds = omega (arith, text_length a.jobs.now a.arcs.now a.sections.now) }
+put_part-requires c = let l = text_length c.args.table.now in
+    let p = rw c.jobs.ensures at c.put_part-arcs_at.ensures in
+    let q = rw c.arcs.ensures at c.put_part-sections_at.ensures in
+    rw c.sections.ensures record { counted = c.requires.counted.sections; values_in_bounds = omega (arith, p.end, q.end) }
 
 pub returns : goal.returns
-returns c = text_put c.args.jobs.now c.args.arcs.now c.args.sections.now
-    c.put_part-arcs_at.ensures c.put_part-sections_at.ensures c.put_part.ensures c.requires.sections_in_bounds
+returns c = text_put c.args.table.now
+    (rw c.jobs.ensures at c.put_part-arcs_at.ensures)
+    (rw c.arcs.ensures at c.put_part-sections_at.ensures)
+    (rw c.sections.ensures at c.put_part.ensures)
+    c.requires.in_bounds

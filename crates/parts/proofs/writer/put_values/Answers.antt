@@ -11,4 +11,4 @@ loop-i-preserved c = line-put c.loop-i.invariant (omega arith) c.key_at.ensures.
     c.put_line-at.ensures c.put_line-at.auto.out
 
 pub returns : goal.returns
-returns c = lined c.loop-i.invariant c.loop-i-test.false
+returns c = lined c.loop-i.invariant (omega arith)

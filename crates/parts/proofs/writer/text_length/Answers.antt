@@ -4,5 +4,4 @@ use Rattle.parts.specs.Rows.{text_length}
 use Rattle.parts.proofs.writer.text_length.Goals as goal
 
 pub returns : goal.returns
-returns c = let a = c.args in
-    omega (arith, text_length a.jobs.now a.arcs.now a.sections.now)
+returns c = rw (text_length c.args.table.now, ← c.jobs.ensures, ← c.arcs.ensures, ← c.sections.ensures) (omega arith)

@@ -1,17 +1,22 @@
-use Rattle.std.proofs.Common.{refl, ◌+◌, ◌*◌, ◌≤◌, arith, get_or}
+use Rattle.std.proofs.Common.{◌≡◌, ◌∙◌, ap, refl, arith}
 use Rattle.laws.specs.Rows.{sum_more}
 use Rattle.rules.specs.Rows.{sum}
+use Rattle.rules.specs.Table.{job_count, cost}
 use Rattle.states.proofs.ends.total_cost.Goals as goal
-use Rattle.states.proofs.ends.total_cost.Goals.{In-loop-j}
-
--- a job's cost is within its bound
-priced : (c : In-loop-j) → get_or c.args.jobs.now (3 * c.loop-j.j + 1) 0 ≤ 100000
-priced c = c.requires.2 c.loop-j.j (omega arith)
 
 pub loop-j-init : goal.loop-j-init
 unfolding sum
-loop-j-init c = (omega arith, omega arith, omega arith, refl)
+loop-j-init c = (omega arith, c.table-table.ensures, refl)
 
 pub loop-j-preserved : goal.loop-j-preserved
-loop-j-preserved c = let h = priced (goal.at.loop-j-preserved c).In-loop-j in
-    (omega arith, omega arith, omega arith, rw sum_more (omega (arith, c.loop-j.invariant.3)))
+loop-j-preserved c =
+    let e : c.job_count-j-end.result ≡ job_count c.args.plan.now.table = c.job_count-j-end.ensures ∙ ap job_count c.table-table.ensures in
+    let i : c.cost-total.result ≡ cost c.args.plan.now.table c.loop-j.j = c.cost-total.ensures ∙ ap (λ t. cost t c.loop-j.j) c.table-table.ensures in
+    let b = c.requires.costs c.loop-j.j (omega arith) in
+    (omega arith, c.table-table.ensures, rw (sum_more, ← i) (omega (arith, c.loop-j.invariant.2)))
+
+pub returns : goal.returns
+returns c =
+    let e : c.job_count-j-end.result ≡ job_count c.args.plan.now.table = c.job_count-j-end.ensures ∙ ap job_count c.table-table.ensures in
+    let n : c.loop-j.j ≡ job_count c.args.plan.now.table = omega arith in
+    (rw n at c.loop-j.invariant.2, omega arith)

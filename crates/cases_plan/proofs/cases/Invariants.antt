@@ -1,9 +1,0 @@
--- Each turn takes one case; the numbers only go up to their count.
-use Rattle.std.proofs.Common.{◌≤◌, ◌-◌}
-use Rattle.cases_plan.proofs.cases.Given as goal
-
-abbrev pub invariant-loop-k : goal.invariant-loop-k
-invariant-loop-k l = l.k ≤ l.count
-
-abbrev pub decreases-loop-k : goal.decreases-loop-k
-decreases-loop-k l = l.count - l.k

@@ -1,0 +1,16 @@
+-- No job that fails is a yes; else the place of the first.
+use Rattle.std.proofs.Common.{arith}
+use Rattle.density.specs.Promise.{no_place, place-at, job_there}
+use Rattle.sums.specs.Sums.{timed}
+use Rattle.density.proofs.lowest_failing.Goals as goal
+
+pub returns-in_err-job : goal.returns-in_err-job
+returns-in_err-job c = rw c.from_residual.ensures (no_place c.args.plan.now c.args.m c.first_failing.ensures c.in_err-job.was)
+
+pub before-earlier-requires : goal.before-earlier-requires
+before-earlier-requires c = let t = timed c.args.plan.now c.requires.0 in
+    let h = job_there c.args.plan.now c.args.m c.first_failing.ensures c.in_ok-job.was in
+    (t, omega arith)
+
+pub returns : goal.returns
+returns c = place-at c.args.plan.now c.args.m c.first_failing.ensures c.in_ok-job.was c.before-earlier.ensures.0

@@ -1,2 +1,0 @@
--- Laws for the rules of one row.
-pub mod Row
