@@ -54,9 +54,9 @@ pub record Fronts (text jobs arcs sections : List ℕ) (c : Counts) : Type 0 whe
   pub table : Table
   pub read : rules.read text ≡ gives table
   pub counts : (c.jobs ≤ 64) × (c.arcs ≤ 256) × (c.sections ≤ 128)
-  pub jobs_front : take (3 * c.jobs) jobs ≡ table.jobs
-  pub arcs_front : take (2 * c.arcs) arcs ≡ table.arcs
-  pub sections_front : take (4 * c.sections) sections ≡ table.sections
+  pub jobs_front : take (c.jobs * 3) jobs ≡ table.jobs
+  pub arcs_front : take (c.arcs * 2) arcs ≡ table.arcs
+  pub sections_front : take (c.sections * 4) sections ≡ table.sections
 
 module _ (text jobs arcs sections : List ℕ) (j : length jobs ≡ 192) (a : length arcs ≡ 512) (s : length sections ≡ 512) where
   -- there is room for every table
@@ -102,9 +102,9 @@ module _ (text jobs arcs sections : List ℕ) (j : length jobs ≡ 192) (a : len
               table = t;
               read = e;
               counts = (omega (arith, l.few_jobs), omega (arith, l.few_arcs), omega (arith, l.few_sections));
-              jobs_front = rw x (take_at t.jobs _ (3 * c.jobs) (omega (arith, l.jobs)));
-              arcs_front = rw y (take_at t.arcs _ (2 * c.arcs) (omega (arith, l.arcs)));
-              sections_front = rw z (take_at t.sections _ (4 * c.sections) (omega (arith, l.sections)));
+              jobs_front = rw x (take_at t.jobs _ (c.jobs * 3) (omega (arith, l.jobs)));
+              arcs_front = rw y (take_at t.arcs _ (c.arcs * 2) (omega (arith, l.arcs)));
+              sections_front = rw z (take_at t.sections _ (c.sections * 4) (omega (arith, l.sections)));
             }
 
 -- ---- planning

@@ -56,12 +56,7 @@ fn print_text(text: &[u8]) -> Page
     let mut sections = [0u32; 512];
     match text::read(text, &mut jobs, &mut arcs, &mut sections) {
         Err(refusal) => Page::refusal(refusal),
-        Ok(counts) => {
-            let j = 3 * counts.jobs as usize;
-            let a = 2 * counts.arcs as usize;
-            let s = 4 * counts.sections as usize;
-            print_table(Table::new(&jobs[..j], &arcs[..a], &sections[..s]))
-        }
+        Ok(counts) => print_table(counts.table(&jobs, &arcs, &sections)),
     }
 }
 

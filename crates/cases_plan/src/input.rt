@@ -19,7 +19,7 @@ impl<'a> Numbers<'a> {
         Numbers { rest: text }
     }
 
-    // The next number, or 0 where there is none.
+    // The next number, or 0 where there is none: a case that is cut off reads zeros, so this is no iterator.
     pub fn next(&mut self) -> u32 {
         let text = self.rest;
         let start = text

@@ -45,12 +45,7 @@ fn read_text(out: &mut Stdout, text: &[u8]) -> io::Result<()> {
             let a = counts.arcs;
             let s = counts.sections;
             write!(out, " jobs={j} arcs={a} sections={s}")?;
-            let table = Table::new(
-                front(&jobs, 3 * j as usize),
-                front(&arcs, 2 * a as usize),
-                front(&sections, 4 * s as usize),
-            );
-            write_again(out, text, &table)?;
+            write_again(out, text, &counts.table(&jobs, &arcs, &sections))?;
             read_short(out, text)
         }
     }

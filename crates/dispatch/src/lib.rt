@@ -10,7 +10,7 @@ ghost use Rattle.laws.specs.Answers.{fault_in};
 ghost use Rattle.ticks.specs.Fits.{Same, Fit};
 ghost use Rattle.states.specs.Ends.{Bounded};
 ghost use Rattle.dispatch.specs.Judged.{in_bounds};
-ghost use Rattle.dispatch.specs.Promise.{Steps, contents, start_fault, Starts, Runs, Lateness, lateness_in};
+ghost use Rattle.dispatch.specs.Promise.{Steps, contents, fault_for, Starts, Runs, Lateness, lateness_in};
 
 use rules::Refusal;
 use rules::plan::Plan;
@@ -49,7 +49,7 @@ pub struct Stepped {
     pub ran: Result<Option<u32>, Refusal>,
 }
 
-// One step of a plan from a state, with its report.
+// One step of a plan from a state, with its report. The tick stands beside the lists, as C hands it in and gets it back.
 pub fn step(plan: &Plan, tick: u32, lists: &mut Lists, silent: bool) -> Stepped
     ensures steps { Steps plan.now (held tick lists.old) silent result (held result.tick lists.new) }
     ensures lent { SameLists lists.old lists.new }
@@ -68,14 +68,14 @@ pub fn step(plan: &Plan, tick: u32, lists: &mut Lists, silent: bool) -> Stepped
 }
 
 // 12 for a plan out of bounds, then 11 where a lent list is shorter than the jobs.
-fn judge_start(plan: &Plan, executed: usize, marks: usize, finish: usize) -> Result<(), Refusal>
-    ensures { fault_in result ≡ start_fault plan.now executed marks finish }
+fn judge_start(plan: &Plan, lists: &Lists) -> Result<(), Refusal>
+    ensures { fault_in result ≡ fault_for plan.now (contents lists.now) }
 {
     if !plan::plan_in_bounds(plan) {
         return Err(Refusal::Bounds);
     }
     let n = plan.table().job_count();
-    let short = (executed < n) | ((marks < n) | (finish < n));
+    let short = (lists.executed.len() < n) | ((lists.marks.len() < n) | (lists.finish.len() < n));
     if short {
         return Err(Refusal::Room);
     }
@@ -87,12 +87,7 @@ pub fn start(plan: &Plan, lists: &mut Lists) -> Result<u32, Refusal>
     ensures starts { Starts plan.now (contents lists.old) result (contents lists.new) }
     ensures lent { SameLists lists.old lists.new }
 {
-    judge_start(
-        plan,
-        lists.executed.len(),
-        lists.marks.len(),
-        lists.finish.len(),
-    )?;
+    judge_start(plan, lists)?;
     let n = plan.table().job_count();
     ends::clear(lists.executed, n);
     ends::clear(lists.marks, n);

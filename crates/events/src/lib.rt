@@ -66,7 +66,7 @@ fn ticks_free(plan: &Plan, state: &State, end: u32, job: usize) -> u32
 }
 
 // Takes the ticks from this one to the next event, or to `end`, every report answered: the tick after them. Where every job has
-// finished, no tick is taken; only where nobody runs can that be.
+// finished, no tick is taken, as `Next` says, and the tick is the given one; only where nobody runs can that be.
 pub fn skip(plan: &Plan, tick: u32, end: u32, lists: &mut Lists) -> u32
     requires { Fit plan.now (held tick lists.old) × (tick < end) × (end ≤ 10000000) }
     ensures next { Next plan.now (held tick lists.old) end (held result lists.new) }

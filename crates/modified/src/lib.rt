@@ -16,7 +16,7 @@ use rules::Refusal;
 use rules::table::Table;
 
 // Releases go forward along the arcs, deadlines back. The way chooses a number, not a step: an enum, as a closure for each of its four
-// numbers would say no more.
+// numbers would say no more, and the table stands beside it.
 #[derive(Clone, Copy)]
 pub enum Way {
     Forward,

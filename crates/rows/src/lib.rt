@@ -29,7 +29,8 @@ fn judge_counts(table: &Table) -> Result<(), Refusal>
     Ok(())
 }
 
-// 2 to 7, in that order: counts and lengths, then what stands in a row, the lowest that breaks its rule.
+// 2 to 7, in that order: counts and lengths, then what stands in a row, the lowest that breaks its rule. Each rule says its search and its
+// refusal: a helper over both, as two closures, would be no shorter where it is called.
 pub fn judge_values(table: &Table) -> Result<(), Refusal>
     ensures { fault_in result ≡ values_fault table.now }
 {

@@ -17,7 +17,8 @@ use rules::Span;
 use rules::plan::Plan;
 use rules::table::Table;
 
-// Above every relative deadline: the ceiling of a resource that no job has a section on.
+// Above every relative deadline: the ceiling of a resource that no job has a section on. A number and not `None`, as the smallest is then
+// found with no case.
 const NO_CEILING: u32 = 1_000_001;
 
 // The fraction c / d, over the multiple m.

@@ -1,6 +1,7 @@
 #![tactic(auto)]
 // A table's text: read into three lent lists, and written into lent bytes.
-ghost use Rattle.std.specs.Prelude.{◌≡◌, length};
+ghost use Rattle.std.specs.Prelude.{◌≡◌, length, ◌*◌, take};
+ghost use Rattle.rules.specs.Lists.{table};
 ghost use Rattle.parts.specs.Parts.{part_of};
 ghost use Rattle.text.specs.Passes.{roomy, Judged};
 ghost use Rattle.text.specs.Promises.{Reads, Writes};
@@ -26,6 +27,27 @@ fn have_room(counts: Counts, jobs: usize, arcs: usize, sections: usize) -> bool
     Part::Jobs.has_room(counts.jobs, jobs)
         && Part::Arcs.has_room(counts.arcs, arcs)
         && Part::Sections.has_room(counts.sections, sections)
+}
+
+// The first rows of a part's list, so many, or all numbers where it has fewer.
+fn front(part: Part, count: u32, values: &[u32]) -> &[u32]
+    ensures { result.now ≡ take (count * (part_of part).width) values.now }
+{
+    let n = part.values(count);
+    &values[..n.min(values.len())]
+}
+
+impl Counts {
+    // The table that stands in the fronts of three lists.
+    pub fn table<'a>(self, jobs: &'a [u32], arcs: &'a [u32], sections: &'a [u32]) -> Table<'a>
+        ensures { result ≡ table (take (self.jobs * 3) jobs.now) (take (self.arcs * 2) arcs.now) (take (self.sections * 4) sections.now) }
+    {
+        Table::new(
+            front(Part::Jobs, self.jobs, jobs),
+            front(Part::Arcs, self.arcs, arcs),
+            front(Part::Sections, self.sections, sections),
+        )
+    }
 }
 
 // Reads a text into the front of three lists, which come one by one, as C lends them. The whole text is read into lists of its own before

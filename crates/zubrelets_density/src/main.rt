@@ -4,7 +4,6 @@
 use reading::front;
 use rules::Refusal;
 use rules::plan::Plan;
-use rules::table::Table;
 use std::io;
 use std::io::{Stdout, Write};
 
@@ -16,11 +15,7 @@ fn test(text: &[u8]) -> Result<Option<u32>, Refusal> {
     let mut sections = [0u32; 512];
     let mut times = [0u32; 128];
     let counts = text::read(text, &mut jobs, &mut arcs, &mut sections)?;
-    let table = Table::new(
-        front(&jobs, 3 * counts.jobs as usize),
-        front(&arcs, 2 * counts.arcs as usize),
-        front(&sections, 4 * counts.sections as usize),
-    );
+    let table = counts.table(&jobs, &arcs, &sections);
     let n = plan::plan(&table, &mut times)?;
     density::density(&Plan::new(table, front(&times, n as usize)))
 }

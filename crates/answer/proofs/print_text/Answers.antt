@@ -15,4 +15,4 @@ returns-in-Err c = let e = not-read c.args.text.now _ _ _ refl refl refl _ _ _ _
 pub returns-in-Ok : goal.returns-in-Ok
 returns-in-Ok c = let k = known (goal.at.returns-in-Ok c).In-Ok in
     let o = c.print_table.ensures in
-    rw (table-printed _ _ k.read) (rw (c.new.ensures, k.jobs_front, k.arcs_front, k.sections_front) at o)
+    rw (table-printed _ _ k.read) (rw (c.table.ensures, k.jobs_front, k.arcs_front, k.sections_front) at o)
