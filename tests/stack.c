@@ -4,7 +4,8 @@
  *
  * The plan is at all its bounds: 64 jobs, 256 arcs, 128 sections. zub_step is called from a state for
  * each way that a tick can go and in every tick of a run, and must stay below 2,048 bytes. That the mark
- * can rise above this is seen at zub_answer, whose page alone has 5,729 bytes. */
+ * can rise above this is seen at zub_answer, whose page alone has 5,729 bytes; with one page and the lists
+ * of all it calls, it must stay below 18,432. */
 #define _XOPEN_SOURCE 600
 #include <stdio.h>
 #include <stdlib.h>
@@ -12,7 +13,7 @@
 #include <ucontext.h>
 #include <zubrelets.h>
 
-enum { LIMIT = 2048, STACK = 65536 };
+enum { LIMIT = 2048, ANSWER_LIMIT = 18432, STACK = 65536 };
 enum { JOBS = ZUB_MOST_JOBS, LAST = JOBS - 1, COST = 4 };
 
 static uint32_t jobs[ZUB_JOBS_ROOM], arcs[ZUB_ARCS_ROOM], sections[ZUB_SECTIONS_ROOM];
@@ -296,6 +297,8 @@ int main(void)
     printf("stack: zub_answer: %zu bytes\n", answer);
     if (answer < ZUB_ANSWER_ROOM)
         fail("the mark of zub_answer is below its page, so the measure is wrong");
+    if (answer >= ANSWER_LIMIT)
+        fail("zub_answer takes 18,432 bytes or more");
     if (step >= LIMIT)
         fail("zub_step takes 2,048 bytes or more");
     printf("stack: a step takes %zu bytes, less than %d\n", step, LIMIT);

@@ -1,11 +1,11 @@
--- Laws for the choice: the units that one pass over the sections counts, and that the ceilings compared section by section are
--- 01's test.
-use Rattle.std.specs.Prelude.{◌≡◌, ◌≢◌, ◌⊎◌, Bool, true, cond, ℕ, ◌+◌, ◌≤◌, ◌<◌, set, replicate}
+-- Laws for the choice: the units that one pass over the sections counts, that the ceilings compared section by section are
+-- 01's test, and what it does not look at.
+use Rattle.std.specs.Prelude.{◌≡◌, ◌≢◌, ◌⊎◌, Bool, true, cond, ◌||◌, ℕ, ◌+◌, ◌≤◌, ◌<◌, set, replicate, Option, None, Some}
 use Rattle.std.proofs.Math.Path.{refl, ap}
 use Rattle.std.proofs.Common.{sym, ◌∙◌, arith}
 use Rattle.std.proofs.Math.Logic.{⊎_elim}
 use Rattle.std.proofs.Math.Bool.{false, and-false}
-use mathlib.Core.List.{List}
+use mathlib.Core.List.{List, []}
 use Rattle.std.proofs.Math.Decide.{ℕ_discrete}
 use Rattle.std.proofs.Math.ListN.{get_or, length-set, get_or-replicate}
 use Rattle.std.proofs.Math.Seq.{get_or-set_same, get_or-set_other}
@@ -13,9 +13,10 @@ use Rattle.std.proofs.Math.Dec.{eqb}
 use borrow.Author.Tests.{eq-eqb, ne_eqb}
 use Rattle.rules.specs.Rows.{all, sum}
 use Rattle.rules.specs.Table.{Plan, State, resources, section_count, owner, resource, span}
-use Rattle.rules.specs.Tick.{held_on, held, clears, may_start}
+use Rattle.rules.specs.Tick.{tightest, span_of, below_ceiling, held_on, held, clears, may_start, first_pending, choose, chosen}
+use Rattle.rules.specs.Lists.{plan, state, at}
 use Rattle.laws.specs.Tests.{Says, so, not_so, lt_says, eq_says, says_or, yes_says, no_says}
-use Rattle.laws.specs.Rows.{sum_more, sum_most, all_says}
+use Rattle.laws.specs.Rows.{sum_more, sum_most, all_says, all_ext}
 use Rattle.laws.specs.Clears.{clears_says, may_says}
 use Rattle.choice.specs.Fits.{held_now, HeldTo, clear_of}
 
@@ -102,3 +103,29 @@ module _ (p : Plan) (st : State) (u : List ℕ) (h : HeldTo p st (section_count 
           (λ z. absurd (n.0 (held-is (resource p.table s) (fit s l) ∙ z)))
           (λ f. absurd (omega (arith, n.1, f s (record { listed = l; on = refl }))))
           (yes_says (clears_says p (span p j) (resource p.table s) (held p st (resource p.table s))) (y (resource p.table s) (fit s l)))
+
+-- ---- the choice looks at neither arcs nor marks nor finishes
+
+module _ (jobs arcs sections times : List ℕ) (t : ℕ) (e m f : List ℕ) where
+  span_same : (o : Option ℕ) → span_of (plan jobs [] sections times) o ≡ span_of (plan jobs arcs sections times) o
+  span_same None = refl
+  span_same (Some s) = refl
+
+  clears_same : (d q busy : ℕ) → clears (plan jobs [] sections times) d q busy ≡ clears (plan jobs arcs sections times) d q busy
+  unfolding clears
+  clears_same d q busy =
+      ap (λ o. eqb busy 0 || below_ceiling d o) (span_same (tightest (plan jobs [] sections times) q))
+
+  may_start_same : (j : ℕ) → may_start (plan jobs [] sections times) (at t e) j ≡ may_start (plan jobs arcs sections times) (state t e m f) j
+  unfolding may_start
+  may_start_same j =
+      all_ext _ _ resources
+      (λ q l. clears_same (span (plan jobs [] sections times) j) q (held (plan jobs [] sections times) (at t e) q))
+
+  pub chosen_same : chosen (plan jobs [] sections times) (at t e) ≡ chosen (plan jobs arcs sections times) (state t e m f)
+  unfolding chosen
+  chosen_same = go (first_pending (plan jobs [] sections times) (at t e))
+    where
+      go : (o : Option ℕ) → choose (plan jobs [] sections times) (at t e) o ≡ choose (plan jobs arcs sections times) (state t e m f) o
+      go None = refl
+      go (Some j) = rw (may_start_same j)

@@ -1,5 +1,5 @@
 -- Chains of arcs in words: word i holds the jobs that chains from job i lead to.
-use Rattle.std.specs.Prelude.{◌≡◌, refl, ◌&&◌, ◌||◌, List, [], ◌∷◌, ◌++◌, ℕ, ◌+◌, ◌≤◌, ◌<◌, length, get_or, set, take, drop, replicate, eqb, Option, None}
+use Rattle.std.specs.Prelude.{◌≡◌, refl, Bool, ◌&&◌, ◌||◌, List, [], ◌∷◌, ◌++◌, ℕ, zero, suc, ◌+◌, ◌≤◌, ◌<◌, length, get_or, set, take, drop, replicate, eqb, Option, None}
 use Rattle.std.proofs.Common.{sym, ◌∙◌, ap, add-one, arith, length-set, length-append, length-drop, get_or-set_same, get_or-set_other, eq-eqb, ne_eqb}
 use Rattle.std.proofs.Math.Decide.{ℕ_discrete}
 use Rattle.std.proofs.lemmas.List.{get_or-replicate, get_or-take, length-take-le}
@@ -10,7 +10,8 @@ use Rattle.rules.specs.Refusals.{Fault, first_of, at_row, clashes, reaches_by, r
 use Rattle.laws.specs.Rows.{lowest_ext}
 use Rattle.rows.specs.Judged.{clashes_fault}
 use Rattle.rows.specs.Stages.{front_rows, front_later}
-use Rattle.cycles.specs.Promise.{cycles_fault}
+use Rattle.rules.specs.Lists.{table}
+use Rattle.cycles.specs.Promise.{cycle_found, cycles_fault}
 use Rattle.cycles.specs.Words.{has, insert, joined, has-none, has-insert, or_false, has-joined}
 
 -- every arc names numbers below n
@@ -93,10 +94,31 @@ reached_more t old new n k same few h R J = record {
         ∙ (λ x. joined (get_or-take n old i 0 l x) k (get_or-take n old k 0 h x))
 
 -- a job is on a cycle where its word holds it
-pub cycle_is : (t : Table) (words : List ℕ) → Reached t (job_count t) words
-    → lowest (λ j. has (get_or words j 0) j) (job_count t) ≡ lowest (on_cycle t) (job_count t)
+pub cycle_is : (t : Table) (words : List ℕ) (j : ℕ) (b : Bool) → Reached t (job_count t) words → j < job_count t
+    → b ≡ has (get_or words j 0) j → on_cycle t j ≡ b
 unfolding on_cycle reaches
-cycle_is t words R = lowest_ext _ _ (job_count t) (λ j l. R.holds j j l)
+cycle_is t words j b R l e = sym (e ∙ R.holds j j l)
+
+-- so the lowest whose word does is the lowest on a cycle
+pub lowest_cycle_is : (t : Table) (words : List ℕ) → Reached t (job_count t) words
+    → lowest (λ j. has (get_or words j 0) j) (job_count t) ≡ lowest (on_cycle t) (job_count t)
+lowest_cycle_is t words R = lowest_ext _ _ (job_count t) (λ j l. sym (cycle_is t words j _ R l refl))
+
+-- chains are a matter of the arcs alone
+reaches_same : (jobs sections jobs₂ sections₂ arcs : List ℕ) (k i j : ℕ)
+    → reaches_by (table jobs arcs sections) k i j ≡ reaches_by (table jobs₂ arcs sections₂) k i j
+unfolding reaches_by precedes
+reaches_same jobs sections jobs₂ sections₂ arcs zero i j = refl
+reaches_same jobs sections jobs₂ sections₂ arcs (suc k) i j =
+    let same = reaches_same jobs sections jobs₂ sections₂ arcs k in
+    λ x. same i j x || (same i k x && same k j x)
+
+-- the sections have no part in what 9 finds
+pub cycle_found_lem : (jobs arcs sections : List ℕ) → cycle_found (table jobs arcs sections) ≡ cycle_found (table jobs arcs [])
+unfolding cycle_found on_cycle reaches
+cycle_found_lem jobs arcs sections =
+    ap (at_row 9)
+    (lowest_ext _ _ (job_count (table jobs [] [])) (λ k l. reaches_same jobs sections jobs [] arcs (job_count (table jobs [] [])) k k))
 
 -- the finds make up what 2 to 9 find
 pub cycles_are : (t : Table) {v : Option Fault} {j : Option ℕ} → v ≡ clashes_fault t → j ≡ lowest (on_cycle t) (job_count t)

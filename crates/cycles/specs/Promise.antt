@@ -7,6 +7,11 @@ use Rattle.rules.specs.Refusals.{Fault, first_of, at_row, count_faults, row_faul
 use Rattle.rules.specs.declared.Refusal.{Refusal}
 use Rattle.laws.specs.Answers.{fault_in, fault_in_settles}
 
+-- what 9 finds
+unfoldable pub cycle_found : Table → Option Fault
+unfolding lowest on_cycle
+cycle_found t = at_row 9 (lowest (on_cycle t) (job_count t))
+
 -- what 2 to 9 find
 unfoldable pub cycles_fault : Table → Option Fault
 unfolding count_faults row_faults lowest clashes on_cycle

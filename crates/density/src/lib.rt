@@ -34,7 +34,7 @@ fn lowest_failing(plan: &Plan, m: u32) -> Option<u32>
     ensures { said (Ok result) ≡ gives (answer_at (failing_place plan.now m)) }
 {
     let job = first_failing(plan, m)?;
-    let earlier = before(plan, job);
+    let earlier = before(plan, plan.table().job_count(), job);
     Some(earlier + 1)
 }
 

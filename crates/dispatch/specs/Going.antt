@@ -48,10 +48,9 @@ next_same : {p : Plan} {st : State} {end : ℕ} {st' : State} → Next p st end 
 next_same (over f e) = rw e (record { executed = refl; marks = refl; finish = refl })
 next_same {p} {st} (later s) = rw s.becomes (onward_same p st (replicate s.ticks false))
 
--- what comes next fits as well
-pub next_fits : {p : Plan} {st : State} {end : ℕ} {st' : State} → Fit p st → Next p st end st' → Fit p st'
-next_fits f n =
-    let s = next_same n in
+-- lists of the same lengths fit as well
+pub fit_same : {p : Plan} {st st' : State} → Fit p st → SameLengths st st' → Fit p st'
+fit_same f s =
     record {
       lists =
           record {
@@ -65,12 +64,19 @@ next_fits f n =
       sections_fit = f.sections_fit;
     }
 
+-- what comes next fits too
+pub next_fits : {p : Plan} {st : State} {end : ℕ} {st' : State} → Fit p st → Next p st end st' → Fit p st'
+next_fits f n = fit_same f (next_same n)
+
 -- ---- what is left
 
 -- what is left of a run to the tick `end` comes to what the whole run comes to, r
 pub record Going (p : Plan) (st : State) (end : ℕ) (r : State) : Type 0 where
   pub soon : st.tick ≤ end
   pub left : answered p (end - st.tick) st ≡ r
+
+pub run_begins : (p : Plan) (st : State) (end : ℕ) → st.tick ≡ 0 → Going p st end (answered p end st)
+run_begins p st end e = let z : end - st.tick ≡ end = omega arith in record { soon = omega arith; left = rw z refl }
 
 module _ {p : Plan} {st : State} {end : ℕ} {r : State} (g : Going p st end r) where
   pub run_over : end ≤ st.tick → st ≡ r

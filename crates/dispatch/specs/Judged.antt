@@ -12,6 +12,7 @@ use Rattle.rules.specs.Refusals.{fault, first_of, demand, accepted, count_faults
 use Rattle.laws.specs.Tests.{Says, bool_says, eq_says, le_says, lt_says, says_map, says_and, yes_says, no_says, says_yes}
 use Rattle.laws.specs.Rows.{all-at, all_says}
 use Rattle.laws.specs.Refusals.{all_none, demand-none, bounds_rows}
+use Rattle.rules.specs.Lists.{with_times}
 use Rattle.ticks.specs.Fits.{Same, Fit}
 use Rattle.states.specs.Ends.{Bounded}
 
@@ -84,6 +85,14 @@ module _ (p : Plan) (st : State) where
           ≡ first_of (demand (a && (state_in_bounds p st && ltb st.tick last_tick)) 12 ∷ demand (not (all_finished p st)) 13 ∷ [])
       go true b = rw b
       go false b = refl
+
+  pub bounds_plan : plan_in_bounds p ≡ false → false ≡ in_bounds p st
+  unfolding in_bounds
+  bounds_plan a = rw a refl
+
+  pub bounds_state : (r : Bool) → plan_in_bounds p ≡ true → r ≡ state_in_bounds (with_times p.table []) st → r ≡ in_bounds p st
+  unfolding in_bounds state_in_bounds job_state_right
+  bounds_state r a b = rw a b
 
   pub both : in_bounds p st ≡ true → (plan_in_bounds p ≡ true) × (state_in_bounds p st ≡ true)
   unfolding in_bounds
@@ -159,6 +168,10 @@ module _ (p : Plan) (st : State) where
   state_same b =
       let i = state_in p st b in record { by_job = i.executed_long; marked = record { by_job = i.marks_long }; finished = i.finish_long }
 
+  pub fit : in_bounds p st ≡ true → Fit p st
+  fit h = let (a, b) = both p st h in plan_fit p a st (state_same b)
+
   -- where a step can be taken
   pub step_fit : step_fault p st ≡ None → Fit p st × (st.tick < last_tick)
-  step_fit q = let (a, b, l) = step_good p st q in (plan_fit p a st (state_same b), l)
+  unfolding in_bounds
+  step_fit q = let (a, b, l) = step_good p st q in (fit (rw (a, b) refl), l)

@@ -158,6 +158,9 @@ module _ (p : Plan) (a b c : ℕ) where
 -- ---- laws for the code: start and run, each way out
 
 module _ (p : Plan) (st : State) (l : Lists) where
+  pub reach_refused : (f : Refusal) → fault_for p l ≡ Some (fault_of f) → told (Err f) l ≡ reach_for st l (fault_for p l)
+  reach_refused f e = rw e
+
   pub reach_holds : (l' : Lists) → fault_for p l ≡ None → l' ≡ holding st l → told (Ok st.tick) l' ≡ reach_for st l (fault_for p l)
   reach_holds l' e h = rw (e, h)
 

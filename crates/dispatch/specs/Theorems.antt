@@ -1,5 +1,5 @@
 -- What follows from the promises: each settles its results, a run is single steps, and a step is one tick.
-use Rattle.std.specs.Prelude.{◌≡◌, refl, Bool, true, false, cond, List, ℕ, ◌+◌, ◌≤◌, ◌<◌, length, get_or, set, replicate, ℤ, Option, None, Some, Result, Ok, Err}
+use Rattle.std.specs.Prelude.{◌≡◌, refl, Bool, true, false, cond, List, ℕ, ◌+◌, ◌≤◌, ◌<◌, length, get_or, set, replicate, ℤ, Option, None, Some, Result}
 use Rattle.std.proofs.Common.{sym, ◌∙◌, ap, arith, length-set, get_or-set_same, get_or-set_other}
 use Rattle.std.proofs.Math.Decide.{ℕ_discrete}
 use Rattle.rules.specs.Table.{Plan, State, job_count, cost, last_tick, executed}
@@ -7,7 +7,7 @@ use Rattle.rules.specs.Refusals.{plan_in_bounds, all_finished, step_fault}
 use Rattle.rules.specs.Tick.{chosen, ends, ends_stale, mark_for, advance, move, tick}
 use Rattle.rules.specs.Run.{after_reports, all_end_by, end_state}
 use Rattle.rules.specs.declared.Refusal.{Refusal}
-use Rattle.laws.specs.Answers.{said, said_settles}
+use Rattle.laws.specs.Answers.{said_settles}
 use Rattle.run_laws.specs.States.{Good, good, answered-is}
 use Rattle.run_laws.proofs.Theorems.{end_reached}
 use Rattle.laws.specs.Chosen.{chosen_left}

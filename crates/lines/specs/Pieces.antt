@@ -2,15 +2,15 @@
 use Rattle.std.specs.Prelude.{◌≡◌, refl, List, [], ◌∷◌, ◌++◌, ℕ, suc, ◌+◌, ◌-◌, ◌<◌, ◌≤◌, length, take, drop, set}
 use Rattle.std.proofs.Common.{sym, ◌∙◌, ap, append_assoc, zero-add, add-zero, add_assoc, add-one, arith, take-append-drop, length-append, length-drop, drop-set-lt, take-suc-set, take_at, length-take-le, take_all, drop-drop}
 use Rattle.std.proofs.Math.Seq.{drop-append-add}
-use Rattle.std.proofs.lemmas.Slice.{put_mid-paste}
-use Rattle.std.proofs.lemmas.List.Edits.{paste_all}
-use borrow.Rule.Slice.PartMut.{put_mid}
 use Rattle.lines.specs.Put.{put, Over}
 
 -- nothing is put
 pub put-none : (o : List ℕ) (at : ℕ) → put o at [] ≡ o
 unfolding put
 put-none o at = simp (add-zero, take-append-drop)
+
+pub nothing : (o : List ℕ) (at : ℕ) → Over o at [] o at
+nothing o at = record { end = sym (add-zero at); list = sym (put-none o at) }
 
 -- at the front
 pub put_front : (o vs : List ℕ) → put o 0 vs ≡ vs ++ drop (length vs) o
@@ -23,11 +23,6 @@ unfolding put
 put_first o at v vs h =
     let s : suc at + length vs ≡ at + suc (length vs) = omega arith in
     simp (add-one, take-suc-set o at v h, drop-set-lt (at + suc (length vs)) o at v (omega arith), append_assoc, s)
-
--- a part is written over
-pub part-put : (o : List ℕ) (at k : ℕ) (xs vs : List ℕ) → xs ≡ vs → length vs ≡ k → put_mid at k o xs ≡ put o at vs
-unfolding put
-part-put o at k xs vs e l = put_mid-paste at k o xs vs k e refl (sym l) ∙ paste_all o at vs k (sym l) ∙ rw l refl
 
 -- one piece after the other
 pub put-put : (o : List ℕ) (at : ℕ) (xs ys : List ℕ) → at + length xs ≤ length o
@@ -54,6 +49,10 @@ two {o} {at} {xs} {o₁} {p} {ys} a b h =
       end = rw length-append (omega (arith, a.end, b.end));
       list = b.list ∙ rw (a.end, a.list) (put-put o at xs ys h);
     }
+
+-- what was put at the front stands there
+pub front_of_over : {o vs o' : List ℕ} {n : ℕ} → Over o 0 vs o' n → take n o' ≡ vs
+front_of_over {o} {vs} {o'} {n} p = rw (p.list, put_front o vs) (take_at vs (drop (length vs) o) n (omega (arith, p.end)))
 
 -- one byte
 pub one : (o : List ℕ) (at v : ℕ) → at < length o → Over o at (v ∷ []) (set o at v) (at + 1)

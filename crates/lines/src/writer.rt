@@ -32,14 +32,15 @@ pub fn line_length(k: usize, value: u32) -> usize
     keys::key(k).len() + digit_count(value) + 1
 }
 
-// Bytes, written from `at` on.
+// Bytes, written from `at` on, one by one: `copy_from_slice` would be a `memmove`, which the library for C may not need.
 pub fn put_bytes(out: &mut [u8], at: usize, bytes: &[u8]) -> usize
     requires { at + length bytes.now ≤ length out.old }
     ensures { Over out.old at bytes.now out.new result }
 {
-    let end = at + bytes.len();
-    out[at..end].copy_from_slice(bytes);
-    end
+    for i in 0..bytes.len() {
+        out[at + i] = bytes[i];
+    }
+    at + bytes.len()
 }
 
 // The digits of n, written from `at` on, the last ones first, two at a time. A `while`, as it divides until little is left.

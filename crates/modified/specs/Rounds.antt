@@ -101,10 +101,10 @@ pub record Holds (t : Table) (x : ℕ → ℕ) (v : List ℕ) : Type 0 where
   pub at : (j : ℕ) → j < job_count t → get_or v j 0 ≡ x j
 
 -- arrays that can be written as times
-pub record Fit (t : Table) (releases tails : List ℕ) : Type 0 where
+pub record Fit (n : ℕ) (releases tails : List ℕ) : Type 0 where
   pub release_size : length releases ≡ 64
   pub tail_size : length tails ≡ 64
-  pub tail_in : (j : ℕ) → j < job_count t → get_or tails j 0 ≤ latest
+  pub tail_in : (j : ℕ) → j < n → get_or tails j 0 ≤ latest
 
 -- ---- laws for the code
 

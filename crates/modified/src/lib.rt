@@ -151,14 +151,14 @@ pub fn judge_windows(table: &Table, releases: &[u32; 64], tails: &[u32; 64]) -> 
     }
 }
 
-// The times of the jobs to the front of the lent list: a release, and the deadline of a tail.
-pub fn write(table: &Table, times: &mut [u32], releases: &[u32; 64], tails: &[u32; 64])
-    requires few { job_count table.now ≤ 64 }
-    requires room { 2 * job_count table.now ≤ length times.old }
-    requires fit { Fit table.now releases.now tails.now }
-    ensures { times.new ≡ pairs_to releases.now tails.now (job_count table.now) ++ drop (2 * job_count table.now) times.old }
+// The times of the n jobs to the front of the lent list: a release, and the deadline of a tail.
+pub fn write(times: &mut [u32], n: usize, releases: &[u32; 64], tails: &[u32; 64])
+    requires few { n ≤ 64 }
+    requires room { 2 * n ≤ length times.old }
+    requires fit { Fit n releases.now tails.now }
+    ensures { times.new ≡ pairs_to releases.now tails.now n ++ drop (2 * n) times.old }
 {
-    for j in 0..table.job_count() {
+    for j in 0..n {
         times[2 * j] = releases[j];
         times[2 * j + 1] = LATEST - tails[j];
     }

@@ -1,13 +1,15 @@
 -- Words on a page, and what each line of an answer is.
 use Rattle.std.specs.Prelude.{◌≡◌, length, take}
 use Rattle.std.proofs.Math.Path.{refl}
-use Rattle.std.proofs.Common.{sym, ◌∙◌, ap, add-one, append-nil, append_assoc, arith, take_at, length-append, length-take-le, lt-ltb, eq-eqb, ne_eqb}
+use Rattle.std.proofs.Common.{sym, ◌∙◌, ap, add-one, append-nil, append_assoc, arith, take_at, length-append, length-take-le, le-ltb, lt-ltb, eq-eqb, ne_eqb}
 use mathlib.Core.List.{List, [], ◌++◌}
-use Prim.Native.Nat.{ℕ, suc, ◌+◌, ◌*◌, ◌-◌, ◌<◌, ◌≤◌}
+use Prim.Native.Nat.{ℕ, zero, suc, ◌+◌, ◌*◌, ◌/◌, ◌-◌, ◌<◌, ◌≤◌}
 use Rattle.std.proofs.Math.IntN.{sub_ℕ}
 use Rattle.rules.specs.Table.{Plan, State, job_count}
 use Rattle.rules.specs.Text.{bytes_of, digits}
-use Rattle.rules.specs.Output.{signed, mark_word, job_lines, jobs_lines}
+use Rattle.rules.specs.Run.{lateness}
+use Rattle.rules.specs.Output.{signed, mark_word, job_lines, jobs_lines, report}
+use Rattle.rules.specs.Lists.{plan, timed, state}
 use Rattle.lines.specs.Put.{put, Over}
 
 -- ---- what is written
@@ -46,6 +48,9 @@ early f d h =
     let e : d - suc f + 1 ≡ d - f = omega arith in
     rw (lt-ltb f d h, ← e) refl
 
+pub not-early : (f d : ℕ) → d ≤ f → signed (sub_ℕ f d) ≡ digits (f - d)
+not-early f d h = rw (le-ltb f d h) refl
+
 pub stale_word : (m : ℕ) → m ≡ 2 → mark_word m ≡ bytes_of "stale"
 unfolding mark_word
 stale_word m e = rw (eq-eqb m 2 e) refl
@@ -71,3 +76,23 @@ module _ (p : Plan) (st : State) where
   pub jobs_more : (n : ℕ) → jobs_lines p st (n + 1) ≡ jobs_lines p st n ++ job_lines p st n
   unfolding jobs_lines
   jobs_more n = rw (add-one n) refl
+
+-- ---- a report needs neither arcs nor sections nor the executed ticks
+
+module _ (jobs arcs sections times : List ℕ) (tick : ℕ) (executed marks finish : List ℕ) where
+  pub jobs_same : (n : ℕ)
+      → jobs_lines (timed jobs times) (state 0 [] marks finish) n
+      ≡ jobs_lines (plan jobs arcs sections times) (state tick executed marks finish) n
+  unfolding jobs_lines job_lines lateness
+  jobs_same zero = refl
+  jobs_same (suc n) = ap (λ l. l ++ job_lines (timed jobs times) (state 0 [] marks finish) n) (jobs_same n)
+
+pub report_same : (jobs arcs sections times : List ℕ) (tick : ℕ) (executed marks finish : List ℕ)
+    → report (timed jobs times) (state tick [] marks finish) ≡ report (plan jobs arcs sections times) (state tick executed marks finish)
+unfolding report
+report_same jobs arcs sections times tick executed marks finish =
+    rw (
+      ← jobs_same jobs [] [] times tick [] marks finish (length jobs / 3),
+      ← jobs_same jobs arcs sections times tick executed marks finish (length jobs / 3),
+    )
+    refl

@@ -33,7 +33,7 @@ impl Model for Page {
 
 impl Page {
     // An empty page.
-    fn new() -> Page
+    pub fn new() -> Page
         ensures { result ≡ [] }
     {
         Page {
@@ -142,29 +142,46 @@ impl Page {
         }
     }
 
-    // What is printed of a run that has ended: the number of jobs, the lines of each, and the tick of the end state.
+    // What is printed of a run that has ended, on an empty page: the number of jobs, the lines of each, and the tick of the end state.
+    pub fn put_report(&mut self, plan: &Plan, state: &State)
+        requires empty { self.old ≡ [] }
+        requires reported { Reported plan.now state.now }
+        ensures { self.new ≡ report plan.now state.now }
+    {
+        let count = plan.table().job_count() as u32;
+        let tick = state.tick();
+        self.put_line(b"jobs=", count);
+        self.put_jobs(plan, state);
+        self.put_line(b"ticks=", tick);
+    }
+
+    // A refusal's two lines, on an empty page.
+    pub fn put_refusal(&mut self, refusal: Refusal)
+        requires { self.old ≡ [] }
+        ensures { self.new ≡ refusal_lines (fault_of refusal) }
+    {
+        let number = refusal.number();
+        let place = refusal.place();
+        self.put_line(b"refusal=", number);
+        self.put_line(b"place=", place);
+    }
+
+    // A page with a report on it. It is moved to where it is wanted, so whoever is short of stack lends one to `put_report`.
     pub fn report(plan: &Plan, state: &State) -> Page
         requires { Reported plan.now state.now }
         ensures { result ≡ report plan.now state.now }
     {
-        let count = plan.table().job_count() as u32;
-        let tick = state.tick();
         let mut page = Page::new();
-        page.put_line(b"jobs=", count);
-        page.put_jobs(plan, state);
-        page.put_line(b"ticks=", tick);
+        page.put_report(plan, state);
         page
     }
 
-    // A refusal's two lines.
+    // A page with a refusal on it.
     pub fn refusal(refusal: Refusal) -> Page
         ensures { result ≡ refusal_lines (fault_of refusal) }
     {
-        let number = refusal.number();
-        let place = refusal.place();
         let mut page = Page::new();
-        page.put_line(b"refusal=", number);
-        page.put_line(b"place=", place);
+        page.put_refusal(refusal);
         page
     }
 }

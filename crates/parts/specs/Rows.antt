@@ -1,16 +1,20 @@
 -- Rows of a part: how many values they have, and their text.
-use Rattle.std.specs.Prelude.{◌≡◌, true, List, ℕ, ◌+◌, ◌*◌, ◌/◌, ◌≤◌, leb, length}
+use Rattle.std.specs.Prelude.{◌≡◌, true, List, ℕ, ◌+◌, ◌*◌, ◌/◌, ◌%◌, ◌≤◌, leb, length}
 use Rattle.std.proofs.Math.Bool.{and-eq-true_iff}
-use Rattle.std.proofs.Common.{append_assoc, arith, leb-true, length-append}
+use Rattle.std.proofs.Common.{append_assoc, arith, eq-eqb, leb-true, length-append}
 use Rattle.rules.specs.Table.{Table, most_jobs, most_arcs, most_sections}
 use Rattle.rules.specs.Text.{job_part, arc_part, section_part, key, line, value_lines, part_text, text_of}
 use Rattle.rules.specs.Text as rules
-use Rattle.laws.specs.Text.{Counted, part_text_lem, text_of_lem}
+use Rattle.laws.specs.Text.{length_right, Counted, part_text_lem, text_of_lem}
 use Rattle.parts.specs.declared.Part.{Part}
 use Rattle.parts.specs.declared.Part.TheVariants.{Jobs, Arcs, Sections}
 use Rattle.parts.specs.Parts.{part_of, most_values}
 use Rattle.lines.specs.Put.{Over}
 use Rattle.lines.specs.Pieces.{two}
+
+-- by the width that the code has
+pub whole_rows : (b : rules.Part) (w n : ℕ) → w ≡ b.width → n % w ≡ 0 → b.right (n / w) ≡ length_right b n
+whole_rows b w n e z = rw (← e, eq-eqb (n % w) 0 z)
 
 -- no part has many values
 pub few_rows : (p : Part) (n : ℕ) → (part_of p).right n ≡ true → n * (part_of p).width ≤ most_values p

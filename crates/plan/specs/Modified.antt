@@ -123,7 +123,7 @@ module _ (t : Table) (rows : RowsRight t) where
     times_are = pairs_are (job_count t) (omega arith)
 
     -- where no window is below its cost, no tail reaches below zero
-    pub times_fit : None ≡ window_found t releases tails → Fit t releases tails
+    pub times_fit : None ≡ window_found t releases tails → Fit (job_count t) releases tails
     unfolding window_found
     times_fit e = record {
       release_size = R.size;

@@ -47,14 +47,15 @@ fn put_times(
     tails: &[u32; 64],
 ) -> Result<u32, Refusal>
     requires few { job_count table.now ≤ 64 }
-    requires fit { Fit table.now releases.now tails.now }
+    requires fit { Fit (job_count table.now) releases.now tails.now }
     ensures { Puts (pairs_to releases.now tails.now (job_count table.now)) times.old result times.new }
 {
-    let needed = 2 * table.job_count();
+    let n = table.job_count();
+    let needed = 2 * n;
     if times.len() < needed {
         return Err(Refusal::Room);
     }
-    modified::write(table, times, releases, tails);
+    modified::write(times, n, releases, tails);
     Ok(needed as u32)
 }
 

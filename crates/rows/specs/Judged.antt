@@ -1,9 +1,9 @@
 -- What the entries promise: the first fault that the rules in order find, spoken through 01's number and place.
-use Rattle.std.specs.Prelude.{◌≡◌, refl, Bool, [], ◌∷◌, ◌++◌, Option, None, Some, Result, Ok, Err}
-use Rattle.std.proofs.Common.{sym, ◌∙◌, ap}
+use Rattle.std.specs.Prelude.{◌≡◌, Bool, [], ◌∷◌, ◌++◌, Option, Result}
+use Rattle.std.proofs.Common.{sym, ◌∙◌}
 use Rattle.rules.specs.Rows.{lowest}
 use Rattle.rules.specs.Table.{Table, section_count}
-use Rattle.rules.specs.Refusals.{Fault, fault_of, first_of, at_row, accepted, count_faults, row_faults, clashes}
+use Rattle.rules.specs.Refusals.{Fault, first_of, at_row, accepted, count_faults, row_faults, clashes}
 use Rattle.rules.specs.declared.Refusal.{Refusal}
 use Rattle.laws.specs.Answers.{fault_in, fault_in_settles}
 

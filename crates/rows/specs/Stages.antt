@@ -24,7 +24,7 @@ none_found number f (suc n) = go (lowest f n) (f n) ∙ ap (λ b. b && not (f n)
     go None false = refl
 
 -- what the front finds is found first
-front : (xs ys : List (Option Fault)) → first_of (first_of xs ∷ ys) ≡ first_of (xs ++ ys)
+pub front : (xs ys : List (Option Fault)) → first_of (first_of xs ∷ ys) ≡ first_of (xs ++ ys)
 front [] ys = refl
 front (None ∷ xs) ys = front xs ys
 front (Some f ∷ xs) ys = refl

@@ -1,9 +1,7 @@
 // The order by relative deadlines.
 ghost use Rattle.std.specs.Prelude.{◌≡◌, ◌+◌, ◌*◌, ◌<◌, ◌≤◌, length};
 ghost use Rattle.rules.specs.Rows.{count};
-ghost use Rattle.rules.specs.Table.{job_count};
 ghost use Rattle.rules.specs.Density.{sorts_before};
-ghost use Rattle.sums.specs.Sums.{Timed};
 
 use rules::plan::Plan;
 
@@ -16,13 +14,13 @@ pub fn sorts_before(plan: &Plan, i: usize, j: usize) -> bool
     (plan.span(i), i) < (plan.span(j), j)
 }
 
-// How many of the jobs stand before job j.
-pub fn before(plan: &Plan, j: usize) -> u32
-    requires { Timed plan.now × (2 * j + 1 < length plan.now.times) }
-    ensures { (result ≡ count (λ i. sorts_before plan.now i j) (job_count plan.now.table)) × (result ≤ 64) }
+// How many of the first n jobs stand before job j.
+pub fn before(plan: &Plan, n: usize, j: usize) -> u32
+    requires { (n ≤ 64) × (2 * n ≤ length plan.now.times) × (2 * j + 1 < length plan.now.times) }
+    ensures { (result ≡ count (λ i. sorts_before plan.now i j) n) × (result ≤ 64) }
 {
     let mut k = 0;
-    for i in 0..plan.table().job_count() {
+    for i in 0..n {
         if sorts_before(plan, i, j) {
             k += 1;
         }

@@ -7,7 +7,7 @@ use Rattle.answer.proofs.answer.Goals.{After-as_slice-lines}
 
 -- the lines are those of the rules
 lines : (c : After-as_slice-lines) → c.as_slice-lines.result.now ≡ answer c.args.text.now
-lines c = c.as_slice-lines.ensures.value ∙ c.print_text-page.ensures
+lines c = c.as_slice-lines.ensures.value ∙ c.print_text.ensures
 
 pub returns-then-out-lines : goal.returns-then-out-lines
 returns-then-out-lines c = let e = lines (goal.at.returns-then-out-lines c).After-as_slice-lines in

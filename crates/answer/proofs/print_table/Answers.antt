@@ -13,13 +13,13 @@ known : (c : In-Ok) → let t = c.args.table in
     × (plan_in_bounds (plan_of t) ≡ true)
 known c = was_planned c.args.table _ _ refl _ (rw c.in-Ok.is at c.plan.ensures)
 
-pub print_plan-requires : goal.print_plan-requires
+pub print_plan-requires-clause-in_bounds : goal.print_plan-requires-clause-in_bounds
 unfolding plan_of
-print_plan-requires c = let k = known (goal.at.print_plan-requires c).In-Ok in
+print_plan-requires-clause-in_bounds c = let k = known (goal.at.print_plan-requires-clause-in_bounds c).In-Ok in
     rw (c.new.ensures, k.2) k.3
 
 pub returns-in-Err : goal.returns-in-Err
-returns-in-Err c = rw (not-planned c.args.table _ _ refl _ (rw c.in-Err.is at c.plan.ensures)) c.refusal.ensures
+returns-in-Err c = rw (not-planned c.args.table _ _ refl _ (rw c.in-Err.is at c.plan.ensures)) c.put_refusal.ensures
 
 pub returns-in-Ok : goal.returns-in-Ok
 unfolding plan_of

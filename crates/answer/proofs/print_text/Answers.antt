@@ -10,7 +10,7 @@ known c = was_read c.args.text.now _ _ _ refl refl refl _ _ _ _ (rw c.in-Ok.is a
 
 pub returns-in-Err : goal.returns-in-Err
 returns-in-Err c = let e = not-read c.args.text.now _ _ _ refl refl refl _ _ _ _ (rw c.in-Err.is at c.read.ensures) in
-    rw (refusal_printed _ _ e) c.refusal.ensures
+    rw (refusal_printed _ _ e) c.put_refusal.ensures
 
 pub returns-in-Ok : goal.returns-in-Ok
 returns-in-Ok c = let k = known (goal.at.returns-in-Ok c).In-Ok in
