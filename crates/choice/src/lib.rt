@@ -101,7 +101,7 @@ fn may_start(plan: &Plan, span: Span, units: &[u32; 16]) -> bool
     (0..plan.table().section_count()).all(|s| clears(plan, span, units, s))
 }
 
-// The job that runs in this tick, if one does. Inlined, as a step takes 112 bytes of stack more for it as a function of its own.
+// The job that runs in this tick, if one does. Inlined, as a step takes some 100 bytes of stack more for it as a function of its own.
 #[inline(always)]
 pub fn choose(plan: &Plan, state: &State) -> Option<usize>
     requires { Sized plan.now state.now × SectionsFit plan.now.table }

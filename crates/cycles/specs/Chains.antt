@@ -105,7 +105,7 @@ pub lowest_cycle_is : (t : Table) (words : List ℕ) → Reached t (job_count t)
 lowest_cycle_is t words R = lowest_ext _ _ (job_count t) (λ j l. sym (cycle_is t words j _ R l refl))
 
 -- chains are a matter of the arcs alone
-reaches_same : (jobs sections jobs₂ sections₂ arcs : List ℕ) (k i j : ℕ)
+pub reaches_same : (jobs sections jobs₂ sections₂ arcs : List ℕ) (k i j : ℕ)
     → reaches_by (table jobs arcs sections) k i j ≡ reaches_by (table jobs₂ arcs sections₂) k i j
 unfolding reaches_by precedes
 reaches_same jobs sections jobs₂ sections₂ arcs zero i j = refl

@@ -12,7 +12,7 @@ use Rattle.rules.specs.Refusals.{fault, first_of, demand, accepted, count_faults
 use Rattle.laws.specs.Tests.{Says, bool_says, eq_says, le_says, lt_says, says_map, says_and, yes_says, no_says, says_yes}
 use Rattle.laws.specs.Rows.{all-at, all_says}
 use Rattle.laws.specs.Refusals.{all_none, demand-none, bounds_rows}
-use Rattle.rules.specs.Lists.{with_times}
+use Rattle.rules.specs.Lists.{timed}
 use Rattle.ticks.specs.Fits.{Same, Fit}
 use Rattle.states.specs.Ends.{Bounded}
 
@@ -90,7 +90,8 @@ module _ (p : Plan) (st : State) where
   unfolding in_bounds
   bounds_plan a = rw a refl
 
-  pub bounds_state : (r : Bool) → plan_in_bounds p ≡ true → r ≡ state_in_bounds (with_times p.table []) st → r ≡ in_bounds p st
+  -- neither arcs nor sections nor times have a part in the bounds of a state
+  pub bounds_state : (r : Bool) → plan_in_bounds p ≡ true → r ≡ state_in_bounds (timed p.table.jobs []) st → r ≡ in_bounds p st
   unfolding in_bounds state_in_bounds job_state_right
   bounds_state r a b = rw a b
 
