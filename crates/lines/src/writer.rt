@@ -32,7 +32,7 @@ pub fn line_length(k: usize, value: u32) -> usize
     keys::key(k).len() + digit_count(value) + 1
 }
 
-// Bytes, written from `at` on, one by one: `copy_from_slice` would be a `memmove`, which the library for C may not need.
+// Bytes, written from `at` on, one by one: `copy_from_slice` would call `memmove`, and the library for C must do without.
 pub fn put_bytes(out: &mut [u8], at: usize, bytes: &[u8]) -> usize
     requires { at + length bytes.now ≤ length out.old }
     ensures { Over out.old at bytes.now out.new result }
